@@ -1,0 +1,122 @@
+-- Where steps 4 and 5 come to the next question, in one law for whatever is to be shown of it: at the next stored state that sits at a level
+-- below N, all levels between being empty; or, with all those levels empty, at the first level that no state has, which ends the search with
+-- safe; or at step 2 with a state at every level below N. Each part goes along its definition. Assumes nothing.
+use Prim.Native.Nat.{ℕ, zero, suc, _+_, _-_, _≤_, _<_}
+use mathlib.Core.Bool.{Bool, true, false}
+use mathlib.Core.List.{List, [], _∷_}
+use mathlib.Core.Path.{_≡_, refl, sym, _∙_}
+use native.Mathlib.Omega.{arith}
+use borrow.Author.Tests.{eqb-true, eqb-false, eq-eqb, ne-eqb}
+use lib.Dec.{eqb, leb}
+use lib.ListN.{length}
+use Rattle.ic3.specs.Search.{Entry, levelOf, states, look, raise, at, safe, Move, go, stop, judge, round, tested}
+use Rattle.ic3.specs.Demands.{listed}
+use Rattle.ic3.proofs.Tests.{test, clash}
+use Rattle.ic3.proofs.Store.{Tidy, listed-none, listed-head, listed-other, states-listed, states-split, states-length}
+
+-- no stored state has a level from i up to below j
+abbrev pub Empty : List Entry → ℕ → ℕ → Type 0
+Empty st i j = (k : ℕ) → i ≤ k → k < j → states (eqb k) st ≡ []
+
+-- each level from 1 up to below j has a stored state
+abbrev pub Taken : List Entry → ℕ → Type 0
+Taken st j = (k : ℕ) → 1 ≤ k → k < j → states (eqb k) st ≡ [] → ⊥
+
+-- what is to be shown of a round from level i on
+pub record Lands (P : Move → Type 0) (N : ℕ) (st : List Entry) (i : ℕ) : Type 0 where
+  pub next-level : (j s : ℕ) (todo : List ℕ) → i ≤ j → j < N → Empty st i j → states (eqb j) st ≡ s ∷ todo
+      → P (go (at N st (raise j s todo)))
+  pub gap : (j : ℕ) → 1 ≤ j → j < N → states (eqb j) st ≡ [] → P (stop (safe (states (leb j) st)))
+  pub again : Empty st i N → Taken st N → P (go (at N st look))
+
+more : {Q : ℕ → Type 0} (i j : ℕ) → ((k : ℕ) → i ≤ k → k < j → Q k) → Q j → (k : ℕ) → i ≤ k → k < suc j → Q k
+more {Q} i j f q k a b =
+    test (eqb k j) (λ e. rw (eqb-true k j e) q) (λ e. f k a (omega (arith, eqb-false k j e)))
+
+module _ (P : Move → Type 0) (N : ℕ) (st : List Entry) where
+  judge-lands : ((j : ℕ) → 1 ≤ j → j < N → states (eqb j) st ≡ [] → P (stop (safe (states (leb j) st)))) → (Taken st N → P (go (at N st look)))
+      → (left i : ℕ) → left + i ≡ N → 1 ≤ i → Taken st i → P (judge N left i st)
+  unfolding judge
+  judge-lands gap again zero i e h w = again (λ k a b. w k a (omega arith))
+  judge-lands gap again (suc left) i e h w =
+      pick (states (eqb i) st) refl (λ t. judge-lands gap again left (suc i) (omega arith) (omega arith) t)
+    where
+      pick : (l : List ℕ) → states (eqb i) st ≡ l → (Taken st (suc i) → P (judge N left (suc i) st))
+          → P (elim l [ [] ↦ stop (safe (states (leb i) st)) | s ∷ todo ↦ judge N left (suc i) st ])
+      pick [] q r = gap i h (omega arith) q
+      pick (s ∷ todo) q r =
+          r (more {Q = λ k. states (eqb k) st ≡ [] → ⊥} 1 i w (λ z. absurd (let b : _≡_ {A = ℕ} 0 1 = cc in omega arith)))
+
+  round-goes : (i₀ : ℕ) → Lands P N st i₀ → (left i : ℕ) → left + i ≡ N → 1 ≤ i → i₀ ≤ i → Empty st i₀ i → P (round N left i st)
+  unfolding round
+  round-goes i₀ L zero i e h g w =
+      judge-lands (L .gap) (L .again (λ k a b. w k a (omega arith))) _ 1 (omega arith) (omega arith) (λ k a b. absurd (omega arith))
+  round-goes i₀ L (suc left) i e h g w =
+      pick (states (eqb i) st) refl (λ t. round-goes i₀ L left (suc i) (omega arith) (omega arith) (omega arith) t)
+    where
+      pick : (l : List ℕ) → states (eqb i) st ≡ l → (Empty st i₀ (suc i) → P (round N left (suc i) st))
+          → P (elim l [ [] ↦ round N left (suc i) st | s ∷ todo ↦ go (at N st (raise i s todo)) ])
+      pick [] q r = r (more {Q = λ k. states (eqb k) st ≡ []} i₀ i w q)
+      pick (s ∷ todo) q r = L .next-level i s todo g (omega arith) w q
+
+  -- a round from level i on
+  pub round-lands : (left i : ℕ) → left + i ≡ N → 1 ≤ i → Lands P N st i → P (round N left i st)
+  round-lands left i e h L = round-goes i L left i e h (omega arith) (λ k a b. absurd (omega arith))
+
+  -- Step 4 at level i, with `todo` still to be looked at: at the next of them that sits at level i; else all of them are done with, and the
+  -- round goes on from the next level.
+  pub tested-lands : (i : ℕ) (todo : List ℕ) → i < N
+      → ((s : ℕ) (rest : List ℕ) → levelOf st s ≡ i → length rest < length todo
+      → ((t : ℕ) → levelOf st t ≡ i → listed todo t ≡ true → listed (s ∷ rest) t ≡ true) → P (go (at N st (raise i s rest))))
+      → (((t : ℕ) → levelOf st t ≡ i → listed todo t ≡ true → ⊥) → Lands P N st (suc i))
+      → P (tested N st i todo)
+  unfolding tested
+  tested-lands i [] h same later =
+      round-lands (N - suc i) (suc i) (omega arith) (omega arith) (later (λ t e m. listed-none t m))
+  tested-lands i (s ∷ todo) h same later =
+      pick (eqb (levelOf st s) i) refl
+      (tested-lands i todo h)
+    where
+      skip : eqb (levelOf st s) i ≡ false → (t : ℕ) → levelOf st t ≡ i → listed (s ∷ todo) t ≡ true → listed todo t ≡ true
+      skip q t e m =
+          sym (listed-other todo s t (λ z. eqb-false (levelOf st s) i q (rw z at e))) ∙ m
+
+      pick : (b : Bool) → eqb (levelOf st s) i ≡ b
+          → (((x : ℕ) (rest : List ℕ) → levelOf st x ≡ i → length rest < length todo
+          → ((t : ℕ) → levelOf st t ≡ i → listed todo t ≡ true → listed (x ∷ rest) t ≡ true) → P (go (at N st (raise i x rest))))
+          → (((t : ℕ) → levelOf st t ≡ i → listed todo t ≡ true → ⊥) → Lands P N st (suc i))
+          → P (tested N st i todo))
+          → P (elim b [ true ↦ go (at N st (raise i s todo)) | false ↦ tested N st i todo ])
+      pick true q r = same s todo (eqb-true (levelOf st s) i q) (omega arith) (λ t e m. m)
+      pick false q r =
+          r (λ x rest e l k. same x rest e (omega arith) (λ t z m. k t z (skip q t z m)))
+          (λ done. later (λ t e m. done t e (skip q t e m)))
+
+-- a state of an empty level
+pub empty-level : (st : List Entry) → Tidy st → (i : ℕ) → 1 ≤ i → states (eqb i) st ≡ [] → (s : ℕ) → levelOf st s ≡ i → ⊥
+unfolding listed
+empty-level st w i h q s e =
+    clash (states-listed (eqb i) (ne-eqb i 0 (omega arith)) st w s ∙ eq-eqb i (levelOf st s) (sym e)) (rw q)
+
+-- the first state of a level sits there
+pub level-head : (st : List Entry) → Tidy st → (i : ℕ) → 1 ≤ i → (s : ℕ) (todo : List ℕ) → states (eqb i) st ≡ s ∷ todo → levelOf st s ≡ i
+level-head st w i h s todo q =
+    sym (eqb-true i (levelOf st s)
+    (sym (states-listed (eqb i) (ne-eqb i 0 (omega arith)) st w s) ∙ (rw q (listed-head todo s))))
+
+-- with a state at every level below N, at least N - 1 are stored
+pub taken-length : (st : List Entry) (N : ℕ) → Taken st N → N ≤ suc (length st)
+taken-length st N w = test (eqb N 0) (λ e. omega (arith, eqb-true N 0 e))
+    (λ e. let h : 1 ≤ N = omega (arith, eqb-false N 0 e) in omega (arith, count (N - 1) 1 (omega arith) (omega arith) (omega (arith, states-length (leb 1) st))))
+  where
+    first : (j : ℕ) → (states (eqb j) st ≡ [] → ⊥) → 1 ≤ length (states (eqb j) st)
+    first j f = pick (states (eqb j) st) f
+      where
+        pick : (l : List ℕ) → (l ≡ [] → ⊥) → 1 ≤ length l
+        pick [] g = absurd (g refl)
+        pick (x ∷ l) g = omega arith
+
+    count : (left j : ℕ) → left + j ≡ N → 1 ≤ j → j + length (states (leb j) st) ≤ suc (length st) → N ≤ suc (length st)
+    count zero j e o h = omega arith
+    count (suc left) j e o h =
+        count left (suc j) (omega arith) (omega arith) (omega (arith, states-split j st, first j (w j o (omega arith))))

@@ -1,0 +1,40 @@
+-- Sentences of document 01 that follow from the definitions and the demands. Assumes nothing.
+use Prim.Native.Nat.{ℕ, suc, _+_, _*_, _≤_, _<_}
+use mathlib.Core.Bool.{false}
+use mathlib.Core.List.{List, [], _∷_}
+use mathlib.Core.Path.{_≡_, refl}
+use native.Mathlib.Omega.{arith}
+use lib.ListN.{length}
+use Rattle.ic3.specs.Model.{Model}
+use Rattle.ic3.specs.Search.{Entry, Verdict, safe, unsafe, noRoom, spent, searched}
+use Rattle.ic3.specs.Demands.{Reach, starts, steps, IsPath, Demand-2, Doomed, Number, Answered}
+use Rattle.ic3.proofs.Tests.{clash}
+use Rattle.ic3.proofs.Frames.{leads-state}
+use Rattle.ic3.proofs.Sound.{Duty, demand-2}
+use Rattle.ic3.proofs.Bound.{bound}
+
+-- If I has no solution, no state is reachable, and the answer is safe.
+module _ (M : Model) (no-start : (s : ℕ) → s < M .size → M .start s ≡ false) where
+  pub nothing-reachable : {k s : ℕ} → Reach M k s → ⊥
+  nothing-reachable (starts {s = s} h e) = clash e (no-start s h)
+  nothing-reachable (steps r h e) = nothing-reachable r
+
+  pub answer-safe : (m : ℕ) → Number (Doomed M) m → (room allowance : ℕ) → m ≤ room → 3 * ((m + 2) * (m + 2)) ≤ allowance
+      → (evidence : List ℕ) × (searched M room allowance .verdict ≡ safe evidence)
+  answer-safe m D room allowance h l =
+      pick (searched M room allowance .verdict) (demand-2 M room allowance) (bound M m D .answers room allowance h l)
+    where
+      no-path : (p : List ℕ) → IsPath M p → ⊥
+      no-path [] w = w
+      no-path (s ∷ xs) w = clash (w .0) (no-start s (leads-state M s xs (w .1)))
+
+      pick : (v : Verdict) → Demand-2 M v → Answered v → (evidence : List ℕ) × (v ≡ safe evidence)
+      pick (safe evidence) d a = (evidence, refl)
+      pick (unsafe path) d a = absurd (no-path path (d .real))
+      pick noRoom d a = absurd a
+      pick spent d a = absurd a
+
+-- The path is t, then the states of the open duties from level 1 up to N, so N + 1 states.
+pub path-states : (M : Model) (N : ℕ) (st : List Entry) (s : ℕ) (ds : List ℕ) (t : ℕ) → Duty M N st 0 s ds
+    → length (t ∷ (s ∷ ds)) ≡ suc N
+path-states M N st s ds t w = omega (arith, w .count)

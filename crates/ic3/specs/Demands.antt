@@ -1,0 +1,87 @@
+-- Demands 2 and 3, said of a model.
+use Prim.Native.Nat.{ℕ, zero, suc, _+_, _*_, _≤_, _<_}
+use mathlib.Core.Bool.{Bool, true, false}
+use mathlib.Core.List.{List, [], _∷_}
+use mathlib.Core.Logic.{_↔_}
+use mathlib.Core.Path.{_≡_}
+use lib.Dec.{eqb}
+use lib.ListN.{length}
+use Rattle.ic3.specs.Model.{Model}
+use Rattle.ic3.specs.Search.{Verdict, safe, unsafe, noRoom, spent, searched}
+
+-- the state s is reached from a start state in k steps
+pub data Reach (M : Model) : ℕ → ℕ → Type 0 where
+  starts : {s : ℕ} → s < M .size → M .start s ≡ true → Reach M zero s
+  steps : {k s t : ℕ} → Reach M k s → t < M .size → M .step s t ≡ true → Reach M (suc k) t
+
+-- the state s steps to the first of xs, each of them steps to the next, and the last is bad
+abbrev pub Leads : Model → ℕ → List ℕ → Type 0
+Leads M s [] = (s < M .size) × (M .bad s ≡ true)
+Leads M s (t ∷ xs) = (s < M .size) × (M .step s t ≡ true) × Leads M t xs
+
+-- a path: not empty, it begins with a start state, each state steps to the next, and the last is bad
+abbrev pub IsPath : Model → List ℕ → Type 0
+IsPath M [] = ⊥
+IsPath M (s ∷ xs) = (M .start s ≡ true) × Leads M s xs
+
+-- s is listed
+unfoldable pub listed : List ℕ → ℕ → Bool
+listed [] s = false
+listed (x ∷ xs) s = elim (eqb x s) [ true ↦ true | false ↦ listed xs s ]
+
+-- a set of excluded states, given as a test, is right
+pub record Excludes (M : Model) (out : ℕ → Bool) : Type 0 where
+  pub no-start : (s : ℕ) → s < M .size → M .start s ≡ true → out s ≡ false
+  pub all-bad : (s : ℕ) → s < M .size → M .bad s ≡ true → out s ≡ true
+  pub closed : (s t : ℕ) → s < M .size → t < M .size → out s ≡ false → M .step s t ≡ true → out t ≡ false
+
+pub record Safe (M : Model) (evidence : List ℕ) : Type 0 where
+  pub excludes : Excludes M (listed evidence)
+  pub never : (k s : ℕ) → Reach M k s → M .bad s ≡ false
+
+pub record Unsafe (M : Model) (path : List ℕ) : Type 0 where
+  pub real : IsPath M path
+  pub shortest : (other : List ℕ) → IsPath M other → length path ≤ length other
+
+-- demand 2
+abbrev pub Demand-2 : Model → Verdict → Type 0
+Demand-2 M (safe evidence) = Safe M evidence
+Demand-2 M (unsafe path) = Unsafe M path
+Demand-2 M noRoom = Unit {0}
+Demand-2 M spent = Unit {0}
+
+-- s is no start state and leads to a bad one in any number of steps, none included
+pub record Doomed (M : Model) (s : ℕ) : Type 0 where
+  pub no-start : M .start s ≡ false
+  pub onward : List ℕ
+  pub leads : Leads M s onward
+
+-- no number stands twice
+abbrev pub Distinct : List ℕ → Type 0
+Distinct [] = Unit {0}
+Distinct (x ∷ xs) = (listed xs x ≡ false) × Distinct xs
+
+-- m is the number of those with the property P: some list has exactly these, none twice, and has length m
+pub record Number (P : ℕ → Type 0) (m : ℕ) : Type 0 where
+  pub those : List ℕ
+  pub distinct : Distinct those
+  pub exact : (s : ℕ) → (listed those s ≡ true) ↔ P s
+  pub many : length those ≡ m
+
+-- a verdict, no giving up
+abbrev pub Answered : Verdict → Type 0
+Answered (safe evidence) = Unit {0}
+Answered (unsafe path) = Unit {0}
+Answered noRoom = ⊥
+Answered spent = ⊥
+
+-- One search never asks more than `most` questions, and with room for m states and leave to ask that many it never gives up.
+pub record Bounded (M : Model) (m most : ℕ) : Type 0 where
+  pub few : (room allowance : ℕ) → searched M room allowance .questions ≤ most
+  pub answers : (room allowance : ℕ) → m ≤ room → most ≤ allowance → Answered (searched M room allowance .verdict)
+
+-- demand 3: there is exactly one such m, and it bounds the search
+pub record Demand-3 (M : Model) : Type 0 where
+  pub exists : (m : ℕ) × Number (Doomed M) m
+  pub unique : (m n : ℕ) → Number (Doomed M) m → Number (Doomed M) n → m ≡ n
+  pub bounded : (m : ℕ) → Number (Doomed M) m → Bounded M m (3 * ((m + 2) * (m + 2)))

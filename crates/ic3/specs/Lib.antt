@@ -1,0 +1,6 @@
+-- The root of the definitions, in the order in which to read them. Nothing leans on the last two.
+pub mod Model
+pub mod Search
+pub mod Demands
+pub mod Canonical
+pub mod Exact
