@@ -69,7 +69,8 @@ module _ (M : Model) where
 
     tested-least : (N : ℕ) (st : List Entry) (i : ℕ) (todo : List ℕ) (q : ℕ) → i < N → P q (tested N st i todo)
     tested-least N st i todo q h =
-        tested-lands (P q) N st i todo h (λ s rest e g k. tt) (λ done. round-least N st (suc i) q)
+        tested-lands (P q) N st i todo h
+        (record { same-level = λ s rest e g k. tt; next-levels = λ k. round-least N st (suc i) q })
 
     react-least : (N : ℕ) (st : List Entry) (ph : Phase) (o : Option ℕ) (q : ℕ) → Kept M N st → Stands M N st ph
         → Answers (M .size) (wanted M N st ph) o → C N st ph q → P (suc q) (react room N st ph o)

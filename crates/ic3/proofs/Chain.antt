@@ -7,7 +7,7 @@ use native.Mathlib.Omega.{arith}
 use Rattle.ic3.specs.Model.{least}
 use Rattle.ic3.specs.Search.{levelOf, put, states, R, wanted, judge, round, settled, tested, found, deeper, fits, kept, react, next, run, searched}
 use Rattle.ic3.specs.Demands.{listed, Doomed, Number}
-use Rattle.ic3.specs.Exact.{exact, chain, Met}
+use Rattle.ic3.specs.Exact.{chain, Met}
 use Rattle.ic3.proofs.Tests.{clash}
 use Rattle.ic3.proofs.Store.{listed-other}
 use Rattle.ic3.proofs.Frames.{leads-state}

@@ -17,10 +17,11 @@ use Rattle.ic3.specs.Exact.{exact}
 use Rattle.ic3.proofs.Tests.{test}
 use Rattle.ic3.proofs.Store.{put-tidy, stored-put, put-new, total, total-low, listed-none, states-fall}
 use Rattle.ic3.proofs.Frames.{leads-no-start}
-use Rattle.ic3.proofs.Sound.{Kept, Sits, Stands, level-low, grown}
+use Rattle.ic3.proofs.Sound.{Kept, Sits, Stands, level-low, duty-doomed}
 use Rattle.ic3.proofs.Cost.{bounded}
 use Rattle.ic3.proofs.ExactSums.{pushed-sum, opened-sum, total-cap}
-use Rattle.ic3.proofs.ExactAccount.{Sown, sown-doomed, Fresh, first, grew, lacks, Opened, Testing, C, stored-few, done-few, duty-sown, tested-sown, react-exact}
+use Rattle.ic3.proofs.ExactAccount.{Sown, Fresh, first, grew, lacks, Opened, Testing, C}
+use Rattle.ic3.proofs.ExactKept.{stored-few, done-few, tested-sown, react-exact}
 
 module _ (M : Model) (m : ℕ) (D : Number (Doomed M) m) where
   -- fewer than m states were stored at the end of the last round
@@ -32,9 +33,11 @@ module _ (M : Model) (m : ℕ) (D : Number (Doomed M) m) where
       pick (grew a) = omega (arith, stored-few M m D (suc n) st (K .tidy) (c .sown))
       pick (lacks x) =
           let S : Sown M (suc n) (x .state) = record {
-            no-start = leads-no-start M (suc n) (levelOf st) (K .frames) (x .state) (x .onward) (x .leads) (omega (arith, x .short));
-            onward = x .onward;
-            leads = x .leads;
+            doomed = record {
+              no-start = leads-no-start M (suc n) (levelOf st) (K .frames) (x .state) (x .onward) (x .leads) (omega (arith, x .short));
+              onward = x .onward;
+              leads = x .leads;
+            };
             short = omega (arith, x .short);
           } in
           omega (
@@ -81,7 +84,7 @@ module _ (M : Model) (m : ℕ) (D : Number (Doomed M) m) where
   testing-more : (N : ℕ) (st : List Entry) (i s : ℕ) (todo : List ℕ) (q : ℕ) → Kept M (suc N) st → Sits M (suc N) st i s
       → Testing M N st i (s ∷ todo) q → suc q ≤ exact m
   testing-more N st i s todo q K w c =
-      let h : 1 ≤ m = doomed-some s (sown-doomed M N s (tested-sown M m D N st i s todo w q c)) in
+      let h : 1 ≤ m = doomed-some s (tested-sown M m D N st i s todo w q c .doomed) in
       let l : length st ≤ m = stored-few M m D N st (K .tidy) (c .sown) in
       let z : N + (m - N) ≡ m = omega (arith, c .enough) in
       let x : suc q ≤ 2 * (m * m) + 2 * m + 1 = rw z at (pushed-sum N (m - N) (length st) (total st) (length (states (leb (suc N)) st))
@@ -97,7 +100,7 @@ module _ (M : Model) (m : ℕ) (D : Number (Doomed M) m) where
       (λ e. opened-more n st 0 q K c (omega (arith, eqb-false m 0 e)) (omega arith))
   one-more zero st (settle k s ds) q K w c = absurd c
   one-more (suc n) st (settle k s ds) q K w c =
-      opened-more n st (suc (length ds)) q K c (doomed-some s (sown-doomed M (suc n) s (duty-sown M m D n st K k s ds w))) (omega (arith, w .count))
+      opened-more n st (suc (length ds)) q K c (doomed-some s (duty-doomed M (suc n) st K k s ds w)) (omega (arith, w .count))
   one-more zero st (raise i s todo) q K w c = absurd c
   one-more (suc N) st (raise i s todo) q K w c = testing-more N st i s todo q K w c
 

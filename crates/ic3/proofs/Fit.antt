@@ -56,7 +56,8 @@ module _ (M : Model) (room : ℕ) where
 
       tested-fits : (i : ℕ) (todo : List ℕ) → i < N → FitsMove q (tested N st i todo)
       tested-fits i todo h =
-          tested-lands (FitsMove q) N st i todo h (λ s rest e g k. w) (λ done. round-fits (suc i))
+          tested-lands (FitsMove q) N st i todo h
+          (record { same-level = λ s rest e g k. w; next-levels = λ k. round-fits (suc i) })
 
     found-fits : (N : ℕ) (st : List Entry) (s q : ℕ) → Within N st (suc room) → FitsMove q (found N st s)
     unfolding found

@@ -102,7 +102,7 @@ module _ (M : Model) where
             (λ q. clash e (F .bad-start s h b (omega (arith, eqb-false N 0 q))))
         late (steps {t = t} r h e) b = omega (arith, reach-level (steps r h e), F .barred t h b)
 
-    -- what leads to a bad state in fewer than N steps is no start state: step 3 need not test a duty for that
+    -- what leads to a bad state in fewer than N steps is no start state
     pub leads-no-start : (s : ℕ) (xs : List ℕ) → Leads M s xs → length xs < N → M .start s ≡ false
     leads-no-start s xs w h =
         test (M .start s)

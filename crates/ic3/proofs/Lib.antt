@@ -1,4 +1,4 @@
--- The root of the theorems, in the order in which they lean on one another. Nothing leans on the last five.
+-- The root of the theorems, in the order in which they lean on one another. Nothing else leans on Canonical, Exact and Chain.
 pub mod Tests
 pub mod Least
 pub mod Store
@@ -14,5 +14,6 @@ pub mod Sentences
 pub mod Canonical
 pub mod ExactSums
 pub mod ExactAccount
+pub mod ExactKept
 pub mod Exact
 pub mod Chain

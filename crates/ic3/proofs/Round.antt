@@ -12,7 +12,7 @@ use lib.ListN.{length}
 use Rattle.ic3.specs.Search.{Entry, levelOf, states, look, raise, at, safe, Move, go, stop, judge, round, tested}
 use Rattle.ic3.specs.Demands.{listed}
 use Rattle.ic3.proofs.Tests.{test, clash}
-use Rattle.ic3.proofs.Store.{Tidy, listed-none, listed-head, listed-other, states-listed, states-split, states-length}
+use Rattle.ic3.proofs.Store.{Tidy, listed-head, listed-other, states-listed, states-split, states-length}
 
 -- no stored state has a level from i up to below j
 abbrev pub Empty : List Entry → ℕ → ℕ → Type 0
@@ -29,12 +29,25 @@ pub record Lands (P : Move → Type 0) (N : ℕ) (st : List Entry) (i : ℕ) : T
   pub gap : (j : ℕ) → 1 ≤ j → j < N → states (eqb j) st ≡ [] → P (stop (safe (states (leb j) st)))
   pub again : Empty st i N → Taken st N → P (go (at N st look))
 
+-- every state of the list l that sits at level i is in the list r
+abbrev pub Left : List Entry → ℕ → List ℕ → List ℕ → Type 0
+Left st i l r = (t : ℕ) → levelOf st t ≡ i → listed l t ≡ true → listed r t ≡ true
+
+-- What is to be shown of step 4 at level i, with `todo` still to be looked at: it comes to the next of them that sits at level i; or none of
+-- them does, and it goes on from the next level.
+pub record Passes (P : Move → Type 0) (N : ℕ) (st : List Entry) (i : ℕ) (todo : List ℕ) : Type 0 where
+  pub same-level : (s : ℕ) (rest : List ℕ) → levelOf st s ≡ i → length rest < length todo → Left st i todo (s ∷ rest)
+      → P (go (at N st (raise i s rest)))
+  pub next-levels : Left st i todo [] → Lands P N st (suc i)
+
+-- one number more
 more : {Q : ℕ → Type 0} (i j : ℕ) → ((k : ℕ) → i ≤ k → k < j → Q k) → Q j → (k : ℕ) → i ≤ k → k < suc j → Q k
 more {Q} i j f q k a b =
     test (eqb k j) (λ e. rw (eqb-true k j e) q) (λ e. f k a (omega (arith, eqb-false k j e)))
 
 module _ (P : Move → Type 0) (N : ℕ) (st : List Entry) where
-  judge-lands : ((j : ℕ) → 1 ≤ j → j < N → states (eqb j) st ≡ [] → P (stop (safe (states (leb j) st)))) → (Taken st N → P (go (at N st look)))
+  judge-lands : ((j : ℕ) → 1 ≤ j → j < N → states (eqb j) st ≡ [] → P (stop (safe (states (leb j) st))))
+      → (Taken st N → P (go (at N st look)))
       → (left i : ℕ) → left + i ≡ N → 1 ≤ i → Taken st i → P (judge N left i st)
   unfolding judge
   judge-lands gap again zero i e h w = again (λ k a b. w k a (omega arith))
@@ -63,36 +76,25 @@ module _ (P : Move → Type 0) (N : ℕ) (st : List Entry) where
   pub round-lands : (left i : ℕ) → left + i ≡ N → 1 ≤ i → Lands P N st i → P (round N left i st)
   round-lands left i e h L = round-goes i L left i e h (omega arith) (λ k a b. absurd (omega arith))
 
-  -- Step 4 at level i, with `todo` still to be looked at: at the next of them that sits at level i; else all of them are done with, and the
-  -- round goes on from the next level.
-  pub tested-lands : (i : ℕ) (todo : List ℕ) → i < N
-      → ((s : ℕ) (rest : List ℕ) → levelOf st s ≡ i → length rest < length todo
-      → ((t : ℕ) → levelOf st t ≡ i → listed todo t ≡ true → listed (s ∷ rest) t ≡ true) → P (go (at N st (raise i s rest))))
-      → (((t : ℕ) → levelOf st t ≡ i → listed todo t ≡ true → ⊥) → Lands P N st (suc i))
-      → P (tested N st i todo)
+  -- step 4 at level i, with `todo` still to be looked at
+  pub tested-lands : (i : ℕ) (todo : List ℕ) → i < N → Passes P N st i todo → P (tested N st i todo)
   unfolding tested
-  tested-lands i [] h same later =
-      round-lands (N - suc i) (suc i) (omega arith) (omega arith) (later (λ t e m. listed-none t m))
-  tested-lands i (s ∷ todo) h same later =
-      pick (eqb (levelOf st s) i) refl
-      (tested-lands i todo h)
+  tested-lands i [] h p = round-lands (N - suc i) (suc i) (omega arith) (omega arith) (p .next-levels (λ t e m. m))
+  tested-lands i (s ∷ todo) h p = pick (eqb (levelOf st s) i) refl (tested-lands i todo h)
     where
-      skip : eqb (levelOf st s) i ≡ false → (t : ℕ) → levelOf st t ≡ i → listed (s ∷ todo) t ≡ true → listed todo t ≡ true
-      skip q t e m =
-          sym (listed-other todo s t (λ z. eqb-false (levelOf st s) i q (rw z at e))) ∙ m
+      skip : eqb (levelOf st s) i ≡ false → Left st i (s ∷ todo) todo
+      skip q t e m = sym (listed-other todo s t (λ z. eqb-false (levelOf st s) i q (rw z at e))) ∙ m
 
-      pick : (b : Bool) → eqb (levelOf st s) i ≡ b
-          → (((x : ℕ) (rest : List ℕ) → levelOf st x ≡ i → length rest < length todo
-          → ((t : ℕ) → levelOf st t ≡ i → listed todo t ≡ true → listed (x ∷ rest) t ≡ true) → P (go (at N st (raise i x rest))))
-          → (((t : ℕ) → levelOf st t ≡ i → listed todo t ≡ true → ⊥) → Lands P N st (suc i))
-          → P (tested N st i todo))
+      pick : (b : Bool) → eqb (levelOf st s) i ≡ b → (Passes P N st i todo → P (tested N st i todo))
           → P (elim b [ true ↦ go (at N st (raise i s todo)) | false ↦ tested N st i todo ])
-      pick true q r = same s todo (eqb-true (levelOf st s) i q) (omega arith) (λ t e m. m)
+      pick true q r = p .same-level s todo (eqb-true (levelOf st s) i q) (omega arith) (λ t e m. m)
       pick false q r =
-          r (λ x rest e l k. same x rest e (omega arith) (λ t z m. k t z (skip q t z m)))
-          (λ done. later (λ t e m. done t e (skip q t e m)))
+          r (record {
+            same-level = λ x rest e l k. p .same-level x rest e (omega arith) (λ t z m. k t z (skip q t z m));
+            next-levels = λ k. p .next-levels (λ t z m. k t z (skip q t z m));
+          })
 
--- a state of an empty level
+-- no state sits at an empty level
 pub empty-level : (st : List Entry) → Tidy st → (i : ℕ) → 1 ≤ i → states (eqb i) st ≡ [] → (s : ℕ) → levelOf st s ≡ i → ⊥
 unfolding listed
 empty-level st w i h q s e =
@@ -106,8 +108,8 @@ level-head st w i h s todo q =
 
 -- with a state at every level below N, at least N - 1 are stored
 pub taken-length : (st : List Entry) (N : ℕ) → Taken st N → N ≤ suc (length st)
-taken-length st N w = test (eqb N 0) (λ e. omega (arith, eqb-true N 0 e))
-    (λ e. let h : 1 ≤ N = omega (arith, eqb-false N 0 e) in omega (arith, count (N - 1) 1 (omega arith) (omega arith) (omega (arith, states-length (leb 1) st))))
+taken-length st zero w = omega arith
+taken-length st (suc n) w = count n 1 (omega arith) (omega arith) (omega (arith, states-length (leb 1) st))
   where
     first : (j : ℕ) → (states (eqb j) st ≡ [] → ⊥) → 1 ≤ length (states (eqb j) st)
     first j f = pick (states (eqb j) st) f
@@ -116,7 +118,7 @@ taken-length st N w = test (eqb N 0) (λ e. omega (arith, eqb-true N 0 e))
         pick [] g = absurd (g refl)
         pick (x ∷ l) g = omega arith
 
-    count : (left j : ℕ) → left + j ≡ N → 1 ≤ j → j + length (states (leb j) st) ≤ suc (length st) → N ≤ suc (length st)
+    count : (left j : ℕ) → left + j ≡ suc n → 1 ≤ j → j + length (states (leb j) st) ≤ suc (length st) → suc n ≤ suc (length st)
     count zero j e o h = omega arith
     count (suc left) j e o h =
         count left (suc j) (omega arith) (omega arith) (omega (arith, states-split j st, first j (w j o (omega arith))))

@@ -12,7 +12,7 @@ use lib.Dec.{eqb, leb}
 use lib.ListN.{length}
 use Rattle.ic3.specs.Model.{Model, least, Least, Answers}
 use Rattle.ic3.specs.Search.{Entry, levelOf, put, states, R, Phase, look, settle, raise, Config, at, wanted, Verdict, noRoom, spent, Move, go, stop, settled, tested, found, deeper, fits, kept, react, next, searched}
-use Rattle.ic3.specs.Demands.{Leads, listed, Safe, Demand-2}
+use Rattle.ic3.specs.Demands.{Leads, listed, Safe, Demand-2, Doomed}
 use Rattle.ic3.proofs.Tests.{test, clash, both, first-false}
 use Rattle.ic3.proofs.Least.{least-answers}
 use Rattle.ic3.proofs.Store.{level-put, level-put-other, Tidy, put-tidy, Stored, stored-put, states-listed}
@@ -86,12 +86,21 @@ module _ (M : Model) where
               (λ t b q. level-put-other st s (suc k) t (eqb-false t s q));
         }
 
+    -- the state of a duty is doomed; that it is no start state need not be tested
+    abbrev pub duty-doomed : (k s : ℕ) (ds : List ℕ) → Duty N st k s ds → Doomed M s
+    duty-doomed k s ds w =
+        record {
+          no-start = leads-no-start M N (levelOf st) (K .frames) s ds (w .leads) (omega (arith, w .count));
+          onward = ds;
+          leads = w .leads;
+        }
+
     -- a duty whose state nothing of R(k) steps to
     pub blocked-kept : (k s : ℕ) (ds : List ℕ) → Duty N st k s ds
         → ((t : ℕ) → t < M .size → (R M (levelOf st) k t && M .step t s) ≡ false) → Kept N (put st s (suc k))
     blocked-kept k s ds w free =
         put-kept s k (omega (arith, w .count)) (omega (arith, w .under .0)) (leads-state M s ds (w .leads))
-        (leads-no-start M N (levelOf st) (K .frames) s ds (w .leads) (omega (arith, w .count))) free
+        (duty-doomed k s ds w .no-start) free
 
     -- a stored state that nothing of R(i) steps to
     pub raised-kept : (i s : ℕ) → Sits N st i s
@@ -126,8 +135,10 @@ module _ (M : Model) where
     tested-fine : (i : ℕ) (todo : List ℕ) → 1 ≤ i → i < N → Fine (tested N st i todo)
     tested-fine i todo h l =
         tested-lands Fine N st i todo l
-        (λ s rest e g k. (K, record { above = h; below = l; here = e }))
-        (λ done. round-fine (suc i) (omega arith))
+        (record {
+          same-level = λ s rest e g k. (K, record { above = h; below = l; here = e });
+          next-levels = λ k. round-fine (suc i) (omega arith);
+        })
 
   found-fine : (N : ℕ) (st : List Entry) → Kept N st → (s : ℕ) → Least (M .size) (wanted M N st look) s → Fine (found N st s)
   unfolding found R wanted

@@ -35,15 +35,17 @@ pub record Excludes (M : Model) (out : ℕ → Bool) : Type 0 where
   pub all-bad : (s : ℕ) → s < M .size → M .bad s ≡ true → out s ≡ true
   pub closed : (s t : ℕ) → s < M .size → t < M .size → out s ≡ false → M .step s t ≡ true → out t ≡ false
 
+-- no reachable state is bad, with evidence that is right
 pub record Safe (M : Model) (evidence : List ℕ) : Type 0 where
   pub excludes : Excludes M (listed evidence)
   pub never : (k s : ℕ) → Reach M k s → M .bad s ≡ false
 
+-- a real path, start to bad, and none is shorter
 pub record Unsafe (M : Model) (path : List ℕ) : Type 0 where
   pub real : IsPath M path
   pub shortest : (other : List ℕ) → IsPath M other → length path ≤ length other
 
--- demand 2
+-- demand 2, of a verdict
 abbrev pub Demand-2 : Model → Verdict → Type 0
 Demand-2 M (safe evidence) = Safe M evidence
 Demand-2 M (unsafe path) = Unsafe M path
@@ -61,7 +63,7 @@ abbrev pub Distinct : List ℕ → Type 0
 Distinct [] = Unit {0}
 Distinct (x ∷ xs) = (listed xs x ≡ false) × Distinct xs
 
--- m is the number of those with the property P: some list has exactly these, none twice, and has length m
+-- m is the number of those with the property P: some list has exactly these, none twice, and m of them
 pub record Number (P : ℕ → Type 0) (m : ℕ) : Type 0 where
   pub those : List ℕ
   pub distinct : Distinct those

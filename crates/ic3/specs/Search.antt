@@ -69,14 +69,13 @@ pub data Move : Type 0 where
   go : Config → Move
   stop : Verdict → Move
 
--- Step 5, from level i on, with `left` levels below N to look at. The first level at which no stored state sits exactly ends the search
--- with safe; the evidence is all states stored with at least that level. Otherwise step 2.
+-- Step 5, from level i on, with `left` levels below N to look at. The smallest level at which no stored state sits exactly makes the answer
+-- safe; the evidence is all states stored with at least that level, in order of first storing. Otherwise step 2.
 unfoldable pub judge : ℕ → ℕ → ℕ → List Entry → Move
 judge N zero i st = go (at N st look)
 judge N (suc left) i st = elim (states (eqb i) st) [ [] ↦ stop (safe (states (leb i) st)) | s ∷ more ↦ judge N left (suc i) st ]
 
--- Step 4, from level i on, with `left` levels below N to go through: every stored state whose level is exactly i, in stored order. Then
--- step 5.
+-- Step 4, from level i on, with `left` levels below N to go through: every stored state whose level is exactly i, in stored order.
 unfoldable pub round : ℕ → ℕ → ℕ → List Entry → Move
 round N zero i st = judge N (N - 1) 1 st
 round N (suc left) i st = elim (states (eqb i) st) [ [] ↦ round N left (suc i) st | s ∷ todo ↦ go (at N st (raise i s todo)) ]
@@ -91,8 +90,7 @@ unfoldable pub found : ℕ → List Entry → ℕ → Move
 found zero st s = stop (unsafe (s ∷ []))
 found (suc k) st s = go (at (suc k) st (settle k s []))
 
--- Step 3, a state t of R(k) steps to s: with k = 0 it is a start state, and the path is t, then the states of the open duties from level 1
--- up to N. Else (t, k) is to be settled first.
+-- Step 3, t of R(k) steps to s. With k = 0 the path is t, then the states of the open duties from level 1 up to N; else settle (t, k) first.
 unfoldable pub deeper : ℕ → List Entry → ℕ → ℕ → List ℕ → ℕ → Move
 deeper N st zero s ds t = stop (unsafe (t ∷ (s ∷ ds)))
 deeper N st (suc k) s ds t = go (at N st (settle k t (s ∷ ds)))
@@ -102,15 +100,14 @@ unfoldable pub settled : ℕ → List Entry → ℕ → List ℕ → Config
 settled N st k [] = at N st look
 settled N st k (d ∷ ds) = at N st (settle (suc k) d ds)
 
--- After storing or raising there must be room. The store outgrows it exactly if a state was stored anew and the store was full.
+-- The store after storing or raising. It outgrows the room exactly if a state was stored anew and the store was full; raising needs no room.
 unfoldable pub fits : ℕ → List Entry → Bool
 fits room st = leb (length st) room
 
 unfoldable pub kept : ℕ → ℕ → List Entry → ℕ → List ℕ → Move
 kept room N st k ds = elim (fits room st) [ true ↦ go (settled N st k ds) | false ↦ stop noRoom ]
 
--- Steps 1 to 4, the answer taken in. In steps 1 and 2 with no bad state N grows by 1 and step 4 begins; after step 1 there is nothing to
--- go through, and step 2 comes next with N = 1.
+-- The answer taken in. With no bad state N grows by 1 and step 4 begins; with none that steps to s, s gets its level.
 unfoldable pub react : ℕ → ℕ → List Entry → Phase → Option ℕ → Move
 react room N st look (some s) = found N st s
 react room N st look none = round (suc N) N 1 st
@@ -128,16 +125,12 @@ pub record Ending : Type 0 where
   pub verdict : Verdict
   pub questions : ℕ
 
--- The search from c, which `asked` questions led to, with leave to ask as many more as the first number says. Before each ask, if the
--- allowance is used up, it ends.
+-- The search from c, which `asked` questions led to. Before each ask, if the allowance, of which `left` is left, is used up, it ends.
 unfoldable pub run : ℕ → Model → ℕ → Config → ℕ → Ending
 run zero M room c asked = record { verdict = spent; questions = asked }
 run (suc left) M room c asked =
-    elim (next M room c) [
-      | go d ↦ run left M room d (suc asked)
-      | stop v ↦ record { verdict = v; questions = suc asked }
-    ]
+    elim (next M room c) [ go d ↦ run left M room d (suc asked) | stop v ↦ record { verdict = v; questions = suc asked } ]
 
--- the whole search: step 1 is step 2 with N = 0 and nothing stored
+-- The whole search. Step 1 is step 2 with N = 0: if it finds nothing, step 4 has no level to go through, and step 2 comes with N = 1.
 unfoldable pub searched : Model → ℕ → ℕ → Ending
 searched M room allowance = run allowance M room (at 0 [] look) 0

@@ -1,0 +1,36 @@
+-- What `somewhere` says. It looks at the last position first and then at those below it, so the law goes by the number of positions: all fail
+-- exactly if the last fails and all below it do. Assumes nothing.
+use mathlib.Core.Path.{_≡_, refl, sym, _∙_}
+use mathlib.Core.Logic.{_↔_, ⊎-elim}
+use mathlib.Core.Bool.{Bool, true, false, _||_, true≢false}
+use Prim.Native.Nat.{ℕ, zero, suc, _<_}
+use native.Mathlib.Omega.{arith}
+use Rattle.masks.specs.Bit.{somewhere}
+use Rattle.masks.proofs.Bits.{eq-or-ne}
+
+-- neither of two tests passes exactly if each fails
+pub or-fails : (a b : Bool) → ((a || b) ≡ false) ↔ ((a ≡ false) × (b ≡ false))
+or-fails true b = (λ e. absurd (true≢false e), λ e. absurd (true≢false (e .0)))
+or-fails false b = (λ e. (refl, e), λ e. e .1)
+
+-- the last position, or one below it
+pub somewhere-suc : (k : ℕ) (p : ℕ → Bool) → somewhere (suc k) p ≡ (p k || somewhere k p)
+unfolding somewhere
+somewhere-suc k p = here (p k)
+  where
+    here : (b : Bool) → (elim b as (λ x. Bool) [ true ↦ true | false ↦ somewhere k p ]) ≡ (b || somewhere k p)
+    here true = refl
+    here false = refl
+
+-- no position passes exactly if each fails
+pub somewhere-false : (k : ℕ) (p : ℕ → Bool) → (somewhere k p ≡ false) ↔ ((i : ℕ) → i < k → p i ≡ false)
+unfolding somewhere
+somewhere-false zero p = (λ e i h. absurd (omega arith), λ h. refl)
+somewhere-false (suc k) p = (
+  λ e i h.
+      let both = or-fails (p k) (somewhere k p) .0 (sym (somewhere-suc k p) ∙ e) in
+      ⊎-elim (λ q. rw q (both .0)) (λ f. somewhere-false k p .0 (both .1) i (omega (arith, f))) (eq-or-ne i k),
+  λ h.
+      somewhere-suc k p
+      ∙ or-fails (p k) (somewhere k p) .1 (h k (omega arith), somewhere-false k p .1 (λ i l. h i (omega arith))),
+)

@@ -1,0 +1,3 @@
+-- The root of the definitions, in the order in which to read them.
+pub mod Bit
+pub mod Ends

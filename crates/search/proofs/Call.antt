@@ -1,0 +1,112 @@
+-- The call, case by case; that it has one result; and that every store keeps its length, since evidence is never longer than the room and a
+-- path by at most two. Assumes nothing.
+use Prim.Native.Nat.{ℕ, zero, suc, _+_, _≤_}
+use mathlib.Core.Bool.{Bool, true, false, not, _||_}
+use mathlib.Core.List.{List, []}
+use mathlib.Core.Path.{_≡_, refl, sym, _∙_}
+use native.Mathlib.Omega.{arith}
+use borrow.Author.Tests.{eqb-true, ltb-false}
+use lib.Dec.{eqb, ltb}
+use lib.ListN.{length, length-append, length-replicate}
+use Rattle.ic3.specs.Model.{Model}
+use Rattle.ic3.specs.Search.{Verdict, safe, unsafe, noRoom, spent, searched}
+use Rattle.ic3.proofs.Tests.{clash}
+use Rattle.ic3.proofs.Fit.{FitsEnding, ending-fits}
+use Rattle.system.specs.System.{System, model, refusalOf}
+use Rattle.search.specs.Call.{Stores, wrongStores, refused, says-nothing, Result, result, over, leaves, ended, called}
+
+-- the system's own refusals come first
+pub refused-system : (y : System) (s : Stores) (r : ℕ) → refusalOf y ≡ suc r → refused y s ≡ suc r
+unfolding refused
+refused-system y s r e = rw (e, refused)
+
+pub refused-stores : (y : System) (s : Stores) → refusalOf y ≡ 0 → wrongStores s ≡ true → refused y s ≡ 4
+unfolding refused
+refused-stores y s e w = rw (e, refused) (rw w)
+
+pub refused-not : (y : System) (s : Stores) → refusalOf y ≡ 0 → wrongStores s ≡ false → refused y s ≡ 0
+unfolding refused
+refused-not y s e w = rw (e, refused) (rw w)
+
+module _ (y : System) (s : Stores) (allowance : ℕ) where
+  pub called-refused : (r : ℕ) → refused y s ≡ suc r → called y s allowance ≡ result (suc r) says-nothing 0 [] s
+  unfolding called
+  called-refused r e = rw (e, called)
+
+  pub called-searches : refused y s ≡ 0
+      → called y s allowance
+      ≡ ended s (searched (model y) (length (s .states)) allowance .questions) (searched (model y) (length (s .states)) allowance .verdict)
+  unfolding called
+  called-searches e = rw (e, called)
+
+  -- any two results that the call allows are equal
+  pub one-result : (r r' : Result) → r ≡ called y s allowance → r' ≡ called y s allowance → r ≡ r'
+  one-result r r' e e' = e ∙ sym e'
+
+-- ---- lengths
+pub over-length : (front store : List ℕ) → length front ≤ length store → length (over front store) ≡ length store
+unfolding over
+over-length front store h = simp (length-append, length-replicate) (omega arith)
+
+-- what stores that are not refused are
+pub record Fitting (s : Stores) : Type 0 where
+  pub same : length (s .states) ≡ length (s .levels)
+  pub most : length (s .states) ≤ 65536
+  pub path : length (s .states) + 2 ≤ length (s .path)
+
+pub stores-fitting : (s : Stores) → wrongStores s ≡ false → Fitting s
+unfolding wrongStores
+stores-fitting s e =
+    let r : ℕ = length (s .states) in
+    let f = pick (eqb r (length (s .levels))) (ltb 65536 r) (ltb (length (s .path)) (r + 2)) e in
+    record {
+      same = eqb-true r (length (s .levels)) (f .0);
+      most = ltb-false 65536 r (f .1);
+      path = ltb-false (length (s .path)) (r + 2) (f .2);
+    }
+  where
+    pick : (a b c : Bool) → (not a || (b || c)) ≡ false → (a ≡ true) × (b ≡ false) × (c ≡ false)
+    pick true true c g = clash refl g
+    pick true false c g = (refl, refl, g)
+    pick false b c g = clash refl g
+
+pub refused-none : (y : System) (s : Stores) → refused y s ≡ 0 → wrongStores s ≡ false
+unfolding refused
+refused-none y s e = pick (refusalOf y) (wrongStores s) e
+  where
+    pick : (r : ℕ) (b : Bool) → _≡_ {A = ℕ} (elim r [ zero ↦ elim b [ true ↦ 4 | false ↦ 0 ] | suc q ↦ suc q ]) 0 → b ≡ false
+    pick zero true g = absurd (omega arith)
+    pick zero false g = refl
+    pick (suc r) b g = absurd (omega arith)
+
+-- `after` is as long as `before`, store by store
+pub record Lengths (before after : Stores) : Type 0 where
+  pub states : length (after .states) ≡ length (before .states)
+  pub levels : length (after .levels) ≡ length (before .levels)
+  pub path : length (after .path) ≡ length (before .path)
+
+leaves-lengths : (s : Stores) (front path : List ℕ) → length front ≤ length (s .states) → length path ≤ length (s .path) → Lengths s (leaves s front path)
+unfolding leaves
+leaves-lengths s front path a b =
+    record {
+      states = over-length front (s .states) a;
+      levels = over-length [] (s .levels) (omega arith);
+      path = over-length path (s .path) b;
+    }
+
+ended-lengths : (M : Model) (s : Stores) (q : ℕ) (v : Verdict) → length (s .states) + 2 ≤ length (s .path) → FitsEnding M (length (s .states)) v q
+    → Lengths s (ended s q v .after)
+unfolding ended
+ended-lengths M s q (safe evidence) h f = leaves-lengths s evidence [] f (omega arith)
+ended-lengths M s q (unsafe path) h f = leaves-lengths s [] path (omega arith) (omega arith)
+ended-lengths M s q spent h f = leaves-lengths s [] [] (omega arith) (omega arith)
+ended-lengths M s q noRoom h f = leaves-lengths s [] [] (omega arith) (omega arith)
+
+pub called-lengths : (y : System) (s : Stores) (allowance : ℕ) → Lengths s (called y s allowance .after)
+called-lengths y s allowance = pick (refused y s) refl
+  where
+    pick : (r : ℕ) → refused y s ≡ r → Lengths s (called y s allowance .after)
+    pick zero e =
+        rw (called-searches y s allowance e)
+        (ended-lengths (model y) s _ _ (stores-fitting s (refused-none y s e) .path) (ending-fits (model y) (length (s .states)) allowance))
+    pick (suc r) e = rw (called-refused y s allowance r e) (record { states = refl; levels = refl; path = refl })

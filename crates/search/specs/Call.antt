@@ -1,0 +1,63 @@
+-- The whole call of document 01: for every system, stores and allowance what it returns, and what the lent stores hold afterwards.
+use Prim.Native.Nat.{ℕ, zero, suc, _+_, _-_}
+use mathlib.Core.Bool.{Bool, true, false, not, _||_}
+use mathlib.Core.List.{List, [], _++_}
+use lib.Dec.{eqb, ltb}
+use lib.ListN.{length, replicate}
+use Rattle.ic3.specs.Search.{Verdict, safe, unsafe, noRoom, spent, searched}
+use Rattle.system.specs.System.{System, model, refusalOf}
+
+-- the state store, the level store and the path store
+pub record Stores : Type 0 where
+  pub states : List ℕ
+  pub levels : List ℕ
+  pub path : List ℕ
+
+-- refusal 4: state store and level store differ in length, or are longer than 65,536, or the path store is shorter than their length plus 2
+unfoldable pub wrongStores : Stores → Bool
+wrongStores s =
+    not (eqb (length (s .states)) (length (s .levels)))
+    || (ltb 65536 (length (s .states)) || ltb (length (s .path)) (length (s .states) + 2))
+
+-- the refusals in the order 1, 2, 3, 4; 0 if there is none
+unfoldable pub refused : System → Stores → ℕ
+refused y s = elim (refusalOf y) [ zero ↦ elim (wrongStores s) [ true ↦ 4 | false ↦ 0 ] | suc r ↦ suc r ]
+
+-- what is said, with the number 0; with every other number, nothing
+pub data Said : Type 0 where
+  says-safe : Said
+  says-unsafe : Said
+  says-nothing : Said
+
+pub record Result : Type 0 where
+  pub number : ℕ
+  pub said : Said
+  pub questions : ℕ
+  pub evidence : List ℕ
+  pub after : Stores
+
+-- the store starts with `front`, and everything behind that is zero
+unfoldable pub over : List ℕ → List ℕ → List ℕ
+over front store = front ++ replicate (length store - length front) 0
+
+-- the state store and the path store start with these, and everything else is zero
+unfoldable pub leaves : Stores → List ℕ → List ℕ → Stores
+leaves s front path = record { states = over front (s .states); levels = over [] (s .levels); path = over path (s .path) }
+
+abbrev pub result : ℕ → Said → ℕ → List ℕ → Stores → Result
+result number said q evidence after = record { number = number; said = said; questions = q; evidence = evidence; after = after }
+
+-- The evidence is the front part of the state store after safe, of the path store after unsafe, and else the empty front of the state store.
+unfoldable pub ended : Stores → ℕ → Verdict → Result
+ended s q (safe evidence) = result 0 says-safe q evidence (leaves s evidence [])
+ended s q (unsafe path) = result 0 says-unsafe q path (leaves s [] path)
+ended s q spent = result 5 says-nothing q [] (leaves s [] [])
+ended s q noRoom = result 6 says-nothing q [] (leaves s [] [])
+
+-- THE CALL. The room is the length of the state store. A refusal reports zero questions and leaves the stores untouched.
+unfoldable pub called : System → Stores → ℕ → Result
+called y s allowance =
+    elim (refused y s) [
+      | zero ↦ (let e = searched (model y) (length (s .states)) allowance in ended s (e .questions) (e .verdict))
+      | suc r ↦ result (suc r) says-nothing 0 [] s
+    ]

@@ -1,0 +1,143 @@
+-- The worked sequencers that document 01 marks, as one list, and the one statement over it.
+use Prim.Native.Nat.{ℕ, zero, suc, _+_, _-_, _*_, _^_, _<_}
+use mathlib.Core.Bool.{Bool, true, false, _&&_, _||_}
+use mathlib.Core.List.{List, [], _∷_, _++_}
+use mathlib.Core.Path.{_≡_}
+use lib.Dec.{eqb}
+use lib.ListN.{length}
+use Rattle.system.specs.System.{System, model}
+use Rattle.search.specs.Call.{Stores, wrongStores, Said, says-safe, says-unsafe, says-nothing, Result, called}
+
+-- a step, from one state to another
+pub record Step : Type 0 where
+  pub from : ℕ
+  pub to : ℕ
+
+abbrev pub _⟶_ : ℕ → ℕ → Step
+s ⟶ t = record { from = s; to = t }
+
+infix 40 _⟶_
+abbrev pub given : List Step → ℕ → ℕ → Bool
+given [] s t = false
+given (x ∷ xs) s t = eqb (x .from) s && eqb (x .to) t || given xs s t
+
+-- Of two state bits: the clause that is false of the step from s to t alone, and such a clause for every step that is not given.
+abbrev pub except : ℕ → ℕ → List ℕ
+except s t = ((3 - s) + 2 ^ 32 * (3 - t)) ∷ ((s + 2 ^ 32 * t) ∷ [])
+
+abbrev pub row : List Step → ℕ → ℕ → List ℕ
+row xs s zero = []
+row xs s (suc t) = elim (given xs s t) [ true ↦ row xs s t | false ↦ except s t ++ row xs s t ]
+
+abbrev pub rows : List Step → ℕ → List ℕ
+rows xs zero = []
+rows xs (suc s) = row xs s 4 ++ rows xs s
+
+-- steps given state by state
+abbrev pub only : List Step → List ℕ
+only xs = rows xs 4
+
+-- n = 2, start {0}
+abbrev pub starting : List ℕ → List ℕ → System
+starting step bad = record { n = 2; start = 0 ∷ (1 ∷ (0 ∷ (2 ∷ []))); step = step; bad = bad }
+
+-- bad {3}
+abbrev pub three : List ℕ
+three = 1 ∷ (0 ∷ (2 ∷ (0 ∷ [])))
+
+-- Ring: 0→1→2→0, 3→3, in the clauses of document 01's example file
+abbrev pub ringGiven : List Step
+ringGiven = (0 ⟶ 1) ∷ ((1 ⟶ 2) ∷ ((2 ⟶ 0) ∷ ((3 ⟶ 3) ∷ [])))
+
+abbrev pub ringSteps : List ℕ
+ringSteps =
+    0x0000_0002_0000_0000 ∷ (0x0000_0000_0000_0001
+    ∷ (0x0000_0000_0000_0001 ∷ (0x0000_0002_0000_0000
+    ∷ (0x0000_0001_0000_0003 ∷ (0x0000_0000_0000_0000
+    ∷ (0x0000_0001_0000_0000 ∷ (0x0000_0000_0000_0003
+    ∷ (0x0000_0000_0000_0001 ∷ (0x0000_0001_0000_0002
+    ∷ (0x0000_0000_0000_0002 ∷ (0x0000_0001_0000_0001 ∷ [])))))))))))
+
+abbrev pub ring : System
+ring = starting ringSteps three
+
+-- Late: as Ring, and 2→3
+abbrev pub lateGiven : List Step
+lateGiven = (2 ⟶ 3) ∷ ringGiven
+
+abbrev pub late : System
+late = starting (only lateGiven) three
+
+-- Chain: 0→0, 2→1→3→0
+abbrev pub chainGiven : List Step
+chainGiven = (0 ⟶ 0) ∷ ((2 ⟶ 1) ∷ ((1 ⟶ 3) ∷ ((3 ⟶ 0) ∷ [])))
+
+abbrev pub chain : System
+chain = starting (only chainGiven) three
+
+-- Ring's steps with I and B empty lists
+abbrev pub emptyLists : System
+emptyLists = record { n = 2; start = []; step = ringSteps; bad = [] }
+
+-- Ring with B one clause of two zero masks
+abbrev pub badFalse : System
+badFalse = starting ringSteps (0 ∷ (0 ∷ []))
+
+-- the system has start {0}, bad {3} and the steps given, and no others
+pub record Given (y : System) (steps : List Step) : Type 0 where
+  pub start : (s : ℕ) → s < 4 → model y .start s ≡ eqb s 0
+  pub step : (s t : ℕ) → s < 4 → t < 4 → model y .step s t ≡ given steps s t
+  pub bad : (s : ℕ) → s < 4 → model y .bad s ≡ eqb s 3
+
+-- a sequencer with its room and allowance, and what document 01 says of it
+pub record Sequencer : Type 0 where
+  pub system : System
+  pub room : ℕ
+  pub allowance : ℕ
+  pub number : ℕ
+  pub said : Said
+  pub evidence : List ℕ
+  pub questions : ℕ
+
+abbrev pub sequencer : System → ℕ → ℕ → ℕ → Said → List ℕ → ℕ → Sequencer
+sequencer y room allowance number said evidence questions =
+    record {
+      system = y;
+      room = room;
+      allowance = allowance;
+      number = number;
+      said = said;
+      evidence = evidence;
+      questions = questions;
+    }
+
+abbrev pub latePath : List ℕ
+latePath = 0 ∷ (1 ∷ (2 ∷ (3 ∷ [])))
+
+-- room 4 and allowance 1,000 where document 01 names none
+abbrev pub sequencers : List Sequencer
+sequencers =
+    sequencer ring 4 1000 0 says-safe (3 ∷ []) 5
+    ∷ (sequencer late 4 1000 0 says-unsafe latePath 16
+    ∷ (sequencer late 2 1000 0 says-unsafe latePath 16
+    ∷ (sequencer late 1 1000 6 says-nothing [] 8
+    ∷ (sequencer late 4 16 0 says-unsafe latePath 16
+    ∷ (sequencer late 4 15 5 says-nothing [] 15
+    ∷ (sequencer late 4 0 5 says-nothing [] 0
+    ∷ (sequencer chain 4 1000 0 says-safe (3 ∷ (1 ∷ (2 ∷ []))) 25
+    ∷ (sequencer emptyLists 4 1000 0 says-unsafe (0 ∷ []) 1
+    ∷ (sequencer badFalse 4 1000 0 says-safe [] 2 ∷ [])))))))))
+
+-- the call ends so
+pub record Ends (x : Sequencer) (r : Result) : Type 0 where
+  pub number : r .number ≡ x .number
+  pub said : r .said ≡ x .said
+  pub evidence : r .evidence ≡ x .evidence
+  pub questions : r .questions ≡ x .questions
+
+-- THE STATEMENT: whatever the lent stores hold
+abbrev pub Worked : List Sequencer → Type 0
+Worked [] = Unit {0}
+Worked (x ∷ xs) =
+    ((s : Stores) → length (s .states) ≡ x .room → wrongStores s ≡ false → Ends x (called (x .system) s (x .allowance)))
+    × Worked xs

@@ -1,0 +1,1 @@
+// The public call. specs/ says what it answers and what it leaves in the lent stores.

@@ -1,0 +1,59 @@
+-- `system::refusal` meets its contract: the three tests are made in their order, and each return knows that the tests before it were false. Past the
+-- first of them n is at most 32, which the third asks for. Assumes nothing.
+use mathlib.Core.Path.{refl, sym, _∙_}
+use borrow.Author.Needs.{needs}
+use Rattle.system.proofs.Refusals.{size-right, refusal-first}
+use Rattle.system.proofs.refusal.Statement.{statement}
+use Rattle.system.proofs.refusal.Tie as tie
+
+wrong-size-requires : tie.Need-wrong-size-requires
+wrong-size-requires c κs = search needs
+
+returns : tie.Need-returns
+returns c = sym (refusal-first _ (sym (c .before .wrong-size .ensures) ∙ c .if1 .taken) refl refl)
+
+wrong-counts-requires : tie.Need-wrong-counts-requires
+wrong-counts-requires c κs = search needs
+
+returns-2 : tie.Need-returns-2
+returns-2 c =
+    let past-1 = c .before .before in
+    sym (refusal-first _
+    (sym (past-1 .before .wrong-size .ensures) ∙ past-1 .if1 .left)
+    (sym (c .before .wrong-counts .ensures) ∙ c .if2 .taken)
+    refl)
+
+wrong-bits-requires : tie.Need-wrong-bits-requires
+wrong-bits-requires c κs =
+    let past-1 = c .before .before in
+    size-right _ (sym (past-1 .before .wrong-size .ensures) ∙ past-1 .if1 .left) .1
+
+returns-3 : tie.Need-returns-3
+returns-3 c =
+    let past-2 = c .before .before in
+    let past-1 = past-2 .before .before in
+    sym (refusal-first _
+    (sym (past-1 .before .wrong-size .ensures) ∙ past-1 .if1 .left)
+    (sym (past-2 .before .wrong-counts .ensures) ∙ past-2 .if2 .left)
+    (sym (c .before .wrong-bits .ensures) ∙ c .if3 .taken))
+
+returns-4 : tie.Need-returns-4
+returns-4 c =
+    let past-2 = c .before .before in
+    let past-1 = past-2 .before .before in
+    sym (refusal-first _
+    (sym (past-1 .before .wrong-size .ensures) ∙ past-1 .if1 .left)
+    (sym (past-2 .before .wrong-counts .ensures) ∙ past-2 .if2 .left)
+    (sym (c .before .wrong-bits .ensures) ∙ c .if3 .left))
+
+pub refusal-spec : {M : Type 1} → statement M
+refusal-spec =
+    tie.close
+    (tie.spec
+    wrong-size-requires
+    returns
+    wrong-counts-requires
+    returns-2
+    wrong-bits-requires
+    returns-3
+    returns-4)
