@@ -1,5 +1,6 @@
 -- The mask with a 1 at one position alone, a power of two. Halving it moves the 1 one position down, so its bits are found by going down with it.
 -- Assumes nothing.
+use mathlib.Core.Logic.{_↔_}
 use mathlib.Core.Path.{_≡_, refl, ap, _∙_}
 use Prim.Native.Nat.{ℕ, zero, suc, _+_, _*_, _-_, _/_, _%_, _^_, _≤_, _<_}
 use native.Mathlib.Nat.{pow-suc, one-mul, mod-eq-of-lt, mul-mod-right}
@@ -7,7 +8,7 @@ use native.Mathlib.Omega.{arith}
 use lib.Bits.{bitAnd, bitOr, or-disjoint}
 use lib.Pow.{pow-lt, pow-add}
 use Rattle.masks.specs.Bit.{bit}
-use Rattle.masks.proofs.Bits.{bit-zero, bit-suc, bit-of-zero, bits-at}
+use Rattle.masks.proofs.Bits.{bit-zero, bit-suc, bit-of-zero, at-bit, bits-at}
 use Rattle.masks.proofs.Operations.{meet}
 
 -- halving moves the 1 down
@@ -41,10 +42,15 @@ pow-past w i h =
 pub shift-one : (w i : ℕ) → i < w → (1 * 2 ^ i) % 2 ^ w ≡ 2 ^ i
 shift-one w i h = rw one-mul (pow-within w i h)
 
+-- `m & 1 << i` is 0 exactly if the bit is
+pub and-pow : (m i : ℕ) → (bitAnd m (2 ^ i) ≡ 0) ↔ (bit m i ≡ 0)
+and-pow m i = (
+  λ e. omega (arith, meet m (2 ^ i) i, pow-here i, at-bit i e, bit-of-zero i),
+  λ z. bits-at i (bitAnd m (2 ^ i)) 0
+      (omega (arith, meet m (2 ^ i) i, bit-of-zero i))
+      (λ j f. omega (arith, meet m (2 ^ i) j, pow-other i j f, bit-of-zero j)),
+)
+
 -- `m | 1 << i` adds, if the bit is new
 pub or-new : (m i : ℕ) → bit m i ≡ 0 → bitOr m (2 ^ i) ≡ m + 2 ^ i
-or-new m i z =
-    or-disjoint m (2 ^ i)
-    (bits-at i (bitAnd m (2 ^ i)) 0
-    (omega (arith, meet m (2 ^ i) i, bit-of-zero i))
-    (λ j f. omega (arith, meet m (2 ^ i) j, pow-other i j f, bit-of-zero j)))
+or-new m i z = or-disjoint m (2 ^ i) (and-pow m i .1 z)

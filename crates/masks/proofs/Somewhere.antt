@@ -34,3 +34,11 @@ somewhere-false (suc k) p = (
       somewhere-suc k p
       ∙ or-fails (p k) (somewhere k p) .1 (h k (omega arith), somewhere-false k p .1 (λ i l. h i (omega arith))),
 )
+
+-- tests that agree at each position find the same
+pub somewhere-same : (k : ℕ) (p q : ℕ → Bool) → ((i : ℕ) → i < k → p i ≡ q i) → somewhere k p ≡ somewhere k q
+unfolding somewhere
+somewhere-same zero p q h = refl
+somewhere-same (suc k) p q h =
+    somewhere-suc k p
+    ∙ rw (h k (omega arith), somewhere-same k p q (λ i l. h i (omega arith))) (sym (somewhere-suc k q))

@@ -1,0 +1,75 @@
+-- What is asked of a state is what the engine asks of its word: in R(0) with the start list and no stored state, in R(i) above with the stored
+-- states and no start list. A bad state is asked for as one that steps to state 0 by a list that does not look at later bits. Assumes nothing.
+use Prim.Native.Nat.{ℕ, zero, suc, _+_, _-_, _*_, _%_, _^_, min, _<_}
+use mathlib.Core.Bool.{Bool, true, false, not, _&&_}
+use mathlib.Core.List.{List, []}
+use mathlib.Core.Logic.{⊎-elim}
+use mathlib.Core.Path.{_≡_, refl, sym, ap, _∙_}
+use native.Mathlib.Nat.{add-mul-mod-self-left, mod-eq-of-lt, lt-of-lt-of-le}
+use native.Mathlib.Omega.{arith}
+use lib.Pow.{pow-mono}
+use Rattle.masks.specs.Bit.{somewhere}
+use Rattle.masks.proofs.Bits.{lt-or-ge}
+use Rattle.masks.proofs.Halves.{bit-low, bit-high, bit-mod}
+use Rattle.ic3.proofs.Least.{least-same}
+use Rattle.system.specs.System.{listTrue, word}
+use Rattle.question.specs.Question.{excluded, inside, badIn, stepIn}
+use Rattle.question.specs.Reason.{stateOf, allowed, fulfils, asked}
+use Rattle.question.proofs.Words.{Same, list-same}
+
+and-true : (a : Bool) → (a && true) ≡ a
+and-true true = refl
+and-true false = refl
+
+and-swap : (a b : Bool) → (a && b) ≡ (b && a)
+and-swap true b = sym (and-true b)
+and-swap false true = refl
+and-swap false false = refl
+
+module _ (s t : ℕ) (f : s < 2 ^ 32) where
+  abbrev w : ℕ
+  w = s + 2 ^ 32 * (t % 2 ^ 32)
+
+  -- the word of 64 bits is the word of the two states
+  same-word : Same (word s t) w
+  unfolding word
+  same-word j l =
+      ⊎-elim
+      (λ b. bit-low 32 j s t b ∙ sym (bit-low 32 j s (t % 2 ^ 32) b))
+      (λ g. let e : 32 + (j - 32) ≡ j = omega arith in
+      rw e at (bit-high 32 (j - 32) s t f ∙ sym (bit-mod 32 (j - 32) t (omega arith)) ∙ sym (bit-high 32 (j - 32) s (t % 2 ^ 32) f)))
+      (lt-or-ge j 32)
+
+  state-of : stateOf w ≡ s
+  state-of = add-mul-mod-self-left s (2 ^ 32) (t % 2 ^ 32) ∙ mod-eq-of-lt f
+
+  module _ (start whole states levels : List ℕ) where
+    pub in-start : (inside start states levels 0 s && listTrue whole (word s t)) ≡ fulfils start whole [] levels 0 w
+    unfolding inside fulfils allowed excluded somewhere
+    in-start = rw (state-of, list-same whole (word s t) w same-word, and-true (listTrue whole w))
+
+    pub in-stored : (i : ℕ) → (inside start states levels (suc i) s && listTrue whole (word s t)) ≡ fulfils [] whole states levels (suc i) w
+    unfolding inside fulfils allowed listTrue
+    in-stored i =
+        rw (state-of, list-same whole (word s t) w same-word)
+        (and-swap (not (excluded (suc i) states levels s)) (listTrue whole w))
+
+module _ (n : ℕ) (start whole states levels : List ℕ) where
+  state-small : (s : ℕ) → s < 2 ^ min n 32 → s < 2 ^ 32
+  state-small s f = lt-of-lt-of-le f (pow-mono {i = min n 32} {j = 32} (omega arith))
+
+  pub step-start : (t : ℕ) → stepIn n start whole states levels 0 t ≡ asked n start whole [] levels 0 t
+  unfolding stepIn asked
+  step-start t = least-same (2 ^ min n 32) _ _ (λ s f. in-start s t (state-small s f) start whole states levels)
+
+  pub step-stored : (i t : ℕ) → 0 < i → stepIn n start whole states levels i t ≡ asked n [] whole states levels i t
+  unfolding stepIn asked
+  step-stored zero t h = absurd (omega arith)
+  step-stored (suc i) t h = least-same (2 ^ min n 32) _ _ (λ s f. in-stored s t (state-small s f) start whole states levels i)
+
+  -- a bad state
+  pub bad-step : (i : ℕ) → badIn n start whole states levels i ≡ stepIn n start whole states levels i 0
+  unfolding badIn stepIn word
+  bad-step i =
+      least-same (2 ^ min n 32) _ _
+      (λ s f. let e : s ≡ s + 2 ^ 32 * 0 = omega arith in ap (λ x. inside start states levels i s && listTrue whole x) e)

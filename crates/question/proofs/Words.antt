@@ -1,0 +1,42 @@
+-- A condition looks at the 64 positions of a word and at nothing else. Assumes nothing.
+use Prim.Native.Nat.{ℕ, _%_, _^_, _<_}
+use mathlib.Core.Bool.{Bool, true, false}
+use mathlib.Core.List.{List, [], _∷_}
+use mathlib.Core.Path.{_≡_, refl, sym, ap, _∙_}
+use native.Mathlib.Nat.{mod-lt}
+use native.Mathlib.Omega.{arith}
+use lib.Pow.{pow-pos}
+use Rattle.masks.specs.Bit.{bit}
+use Rattle.masks.proofs.Bits.{bits-below}
+use Rattle.masks.proofs.Halves.{bit-mod}
+use Rattle.masks.proofs.Somewhere.{somewhere-same}
+use Rattle.system.specs.System.{literalTrue, clauseTrue, listTrue}
+use Rattle.system.proofs.Lists.{list-pair}
+use Rattle.question.specs.Reason.{stateOf, allowed, fulfils}
+
+-- the words w and v have the same 64 bits
+abbrev pub Same : ℕ → ℕ → Type 0
+Same w v = (j : ℕ) → j < 64 → bit w j ≡ bit v j
+
+clause-same : (ones zeros w v : ℕ) → Same w v → clauseTrue ones zeros w ≡ clauseTrue ones zeros v
+unfolding clauseTrue literalTrue
+clause-same ones zeros w v h =
+    somewhere-same 64 (literalTrue ones zeros w) (literalTrue ones zeros v) (λ i l. rw (h i l, literalTrue))
+
+pub list-same : (l : List ℕ) (w v : ℕ) → Same w v → listTrue l w ≡ listTrue l v
+unfolding listTrue
+list-same [] w v h = refl
+list-same (x ∷ []) w v h = refl
+list-same (ones ∷ (zeros ∷ rest)) w v h =
+    list-pair (clauseTrue ones zeros v) ones zeros rest w (clause-same ones zeros w v h)
+    ∙ ap (λ (x : Bool). elim (clauseTrue ones zeros v) as (λ y. Bool) [ true ↦ x | false ↦ false ]) (list-same rest w v h)
+
+pub state-same : (w v : ℕ) → Same w v → stateOf w ≡ stateOf v
+state-same w v h =
+    bits-below 32 (w % 2 ^ 32) (v % 2 ^ 32) (mod-lt w (pow-pos 32)) (mod-lt v (pow-pos 32))
+    (λ j l. bit-mod 32 j w l ∙ h j (omega arith) ∙ sym (bit-mod 32 j v l))
+
+pub fulfils-same : (low whole states levels : List ℕ) (i w v : ℕ) → Same w v
+    → fulfils low whole states levels i w ≡ fulfils low whole states levels i v
+unfolding fulfils allowed
+fulfils-same low whole states levels i w v h = rw (state-same w v h, list-same whole w v h)

@@ -1,0 +1,43 @@
+-- `question::fulfilled` meets its contract: an excluded state and a state of which `low` is not true are answered at once, and else `whole` decides.
+-- Assumes nothing.
+use mathlib.Core.Path.{sym, _∙_}
+use borrow.Author.Tests.{not-true, not-false}
+use borrow.Author.Needs.{needs}
+use Rattle.question.proofs.States.{fulfils-excluded, fulfils-low-false, fulfils-whole}
+use Rattle.question.proofs.fulfilled.Statement.{statement}
+use Rattle.question.proofs.fulfilled.Tie as tie
+
+is-excluded-requires : tie.Need-is-excluded-requires
+is-excluded-requires c κs = search needs
+
+returns : tie.Need-returns
+returns c = sym (fulfils-excluded _ _ _ _ _ _ (sym (c .before .is-excluded .ensures) ∙ c .if1 .taken))
+
+list-true-requires : tie.Need-list-true-requires
+list-true-requires c κs = search needs
+
+returns-2 : tie.Need-returns-2
+returns-2 c = sym (fulfils-low-false _ _ _ _ _ _ (sym (c .before .list-true .ensures) ∙ not-true _ (c .if2 .taken)))
+
+list-true-requires-2 : tie.Need-list-true-requires-2
+list-true-requires-2 c κs = search needs
+
+returns-3 : tie.Need-returns-3
+returns-3 c =
+    let past-2 = c .before in
+    let past-1 = past-2 .before .before in
+    c .list-true2 .ensures
+    ∙ sym (fulfils-whole _ _ _ _ _ _
+    (sym (past-1 .before .is-excluded .ensures) ∙ past-1 .if1 .left)
+    (sym (past-2 .before .list-true .ensures) ∙ not-false _ (past-2 .if2 .left)))
+
+pub fulfilled-spec : {M : Type 1} → statement M
+fulfilled-spec =
+    tie.close
+    (tie.spec
+    is-excluded-requires
+    returns
+    list-true-requires
+    returns-2
+    list-true-requires-2
+    returns-3)

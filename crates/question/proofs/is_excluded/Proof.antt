@@ -1,0 +1,74 @@
+-- `question::is_excluded` meets its contract. The loop's invariant: no entry below j excludes s. An entry that is s with a level of i or more decides,
+-- any other is passed, and at the end none is left. The measure is what is left of the length. Assumes nothing.
+use Prim.Native.Nat.{ℕ, _≤_, _<_, _-_}
+use mathlib.Core.Path.{_≡_, sym, _∙_}
+use mathlib.Core.Bool.{false}
+use mathlib.Core.Logic.{⊎-elim}
+use native.Mathlib.Omega.{arith}
+use borrow.Author.Count.{below-none, below-more}
+use borrow.Author.Needs.{needs}
+use lib.ListN.{length}
+use Rattle.question.proofs.States.{entry, entry-other, entry-same, excluded-by, excluded-none}
+use Rattle.question.proofs.is_excluded.Statement.{statement}
+use Rattle.question.proofs.is_excluded.Tie as tie
+
+abbrev Inv-loop : tie.InvT-loop
+Inv-loop states levels i s j₀ j = (j ≤ length states) × ((k : ℕ) → k < j → entry i states levels s k ≡ false)
+
+abbrev μ-loop : tie.MeasureT-loop
+μ-loop states levels i s j₀ j = length states - j
+
+loop-holds : tie.Need-loop-holds Inv-loop μ-loop
+loop-holds c = (search needs, below-none _)
+
+mul-if1 : tie.Need-mul-if1 Inv-loop μ-loop
+mul-if1 c = search needs
+
+shared-slice-read-if1 : tie.Need-shared-slice-read-if1 Inv-loop μ-loop
+shared-slice-read-if1 c = search needs
+
+at-level-requires : tie.Need-at-level-requires Inv-loop μ-loop
+at-level-requires c κs = search needs
+
+returns : tie.Need-returns Inv-loop μ-loop
+returns c =
+    let found = c .before .before in
+    sym (excluded-by _ _ _ _ _ (found .before .before .loop-test .taken)
+    (entry-same _ _ _ _ _ (found .if1 .taken) ∙ sym (c .before .at-level .ensures) ∙ c .if2 .taken))
+
+add-j : tie.Need-add-j Inv-loop μ-loop
+add-j c = search needs
+
+loop-less : tie.Need-loop-less Inv-loop μ-loop
+loop-less c = search needs
+
+loop-again : tie.Need-loop-again Inv-loop μ-loop
+loop-again c = (
+  omega arith,
+  below-more _ _ (c .before .before .before .loop .inv .1)
+      (⊎-elim
+      (λ w. entry-same _ _ _ _ _ (w .0 .taken) ∙ sym (w .1 .ensures) ∙ w .2 .left)
+      (λ w. entry-other _ _ _ _ _ (w .left))
+      (c .if1 .came)),
+)
+
+returns-2 : tie.Need-returns-2 Inv-loop μ-loop
+returns-2 c =
+    let inv = c .before .loop .inv in
+    sym (excluded-none _ _ _ _ (λ k l. inv .1 k (omega arith)))
+
+pub is-excluded-spec : {M : Type 1} → statement M
+is-excluded-spec =
+    tie.close
+    (tie.spec
+    Inv-loop
+    μ-loop
+    loop-holds
+    mul-if1
+    shared-slice-read-if1
+    at-level-requires
+    returns
+    add-j
+    loop-less
+    loop-again
+    returns-2)

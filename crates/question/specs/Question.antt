@@ -1,0 +1,35 @@
+-- The two kinds of question of document 01, over lent lists: a state of R(i) that is bad, and a state of R(i) that can step to a given state.
+-- Every input has its answer: lists and stores are taken as they are, and an n above 32 for 32.
+use Prim.Native.Nat.{ℕ, zero, suc, _^_, min}
+use mathlib.Core.Bool.{Bool, not, _&&_}
+use mathlib.Core.List.{List}
+use mathlib.Core.Option.{Option, none, some}
+use lib.Dec.{eqb, leb}
+use lib.ListN.{length, getD}
+use Rattle.masks.specs.Bit.{somewhere}
+use Rattle.ic3.specs.Model.{least}
+use Rattle.system.specs.System.{listTrue, word}
+use Rattle.question.specs.declared.Answer.{Answer}
+use Rattle.question.specs.declared.Answer.the-variants.{State, Nothing}
+
+-- an answer is a state, or says that none exists
+abbrev pub answered : Answer → Option ℕ
+answered (State s) = some s
+answered Nothing = none
+
+-- s is stored with a level of i or more; an entry with no level beside it has every level
+unfoldable pub excluded : ℕ → List ℕ → List ℕ → ℕ → Bool
+excluded i states levels s = somewhere (length states) (λ j. eqb (getD states j 0) s && leb i (getD levels j i))
+
+-- R(0) is the set of start states; for i above 0, R(i) is every state except those stored with a level of i or more
+unfoldable pub inside : List ℕ → List ℕ → List ℕ → ℕ → ℕ → Bool
+inside start states levels zero s = listTrue start s
+inside start states levels (suc i) s = not (excluded (suc i) states levels s)
+
+-- the least state of R(i) that is bad
+unfoldable pub badIn : ℕ → List ℕ → List ℕ → List ℕ → List ℕ → ℕ → Option ℕ
+badIn n start bad states levels i = least (2 ^ min n 32) (λ s. inside start states levels i s && listTrue bad s)
+
+-- the least state of R(i) that steps to t
+unfoldable pub stepIn : ℕ → List ℕ → List ℕ → List ℕ → List ℕ → ℕ → ℕ → Option ℕ
+stepIn n start step states levels i t = least (2 ^ min n 32) (λ s. inside start states levels i s && listTrue step (word s t))

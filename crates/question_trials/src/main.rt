@@ -1,0 +1,422 @@
+// Random questions, asked of the engine and answered by a walk over all states from 0 up. The walk tests a clause literal by literal and shares
+// no code with the engine. The file `stdout` is from `expected.py`, which makes the same questions and answers them once more.
+
+// How many questions, and where the numbers start.
+const QUESTIONS: u64 = 10000;
+
+const SEED: u64 = 0x9E37_79B9_7F4A_7C15;
+
+const HALF: u64 = 1 << 32;
+
+// What the walk and the engine say if there is no state.
+const NONE: u64 = 0xFFFF_FFFF_FFFF_FFFF;
+
+// Where the literals of a list stand: below n; also one step later; or anywhere at times.
+const LOW: u64 = 0;
+
+const LATER: u64 = 1;
+
+const WILD: u64 = 2;
+
+// How many questions had an answer and how many none, the sum of the answers, and how many the engine answers otherwise, with the next number.
+pub struct Tally {
+    pub found: u64,
+    pub none: u64,
+    pub sum: u64,
+    pub differ: u64,
+    pub seed: u64,
+}
+
+// The next random number (xorshift).
+fn next(seed: u64) -> u64 {
+    let a = seed ^ (seed << 13);
+    let b = a ^ (a >> 7);
+    b ^ (b << 17)
+}
+
+// The position of a literal, from eight random bits.
+fn place(byte: u64, n: u64, kind: u64) -> u64 {
+    let low = if n == 0 { 0 } else { byte % n };
+    if byte < 192 {
+        return low % 32;
+    }
+    if kind == LATER {
+        return low % 32 + 32;
+    }
+    if kind == WILD {
+        return byte % 64;
+    }
+    low % 32
+}
+
+// How many literals a clause has, from random bits: seldom none, at times one, else what the list's width says.
+fn literals(bits: u64, width: u64) -> u64 {
+    if bits % 1024 == 0 {
+        return 0;
+    }
+    if bits / 1024 % 16 == 0 {
+        return 1;
+    }
+    2 + width % 3
+}
+
+// One literal as a mask, if it has the wanted sign.
+fn literal(byte: u64, sign: u64, wanted: u64, n: u64, kind: u64) -> u64 {
+    if sign % 2 != wanted {
+        return 0;
+    }
+    1u64 << (place(byte, n, kind) % 64)
+}
+
+// The mask of a clause for one sign: four literals at most.
+fn mask(random: u64, wanted: u64, n: u64, kind: u64, width: u64) -> u64 {
+    let count = literals(random >> 40, width);
+    let a = if 0 < count {
+        literal(random % 256, random >> 32, wanted, n, kind)
+    } else {
+        0
+    };
+    let b = if 1 < count {
+        literal((random >> 8) % 256, random >> 33, wanted, n, kind)
+    } else {
+        0
+    };
+    let c = if 2 < count {
+        literal((random >> 16) % 256, random >> 34, wanted, n, kind)
+    } else {
+        0
+    };
+    let d = if 3 < count {
+        literal((random >> 24) % 256, random >> 35, wanted, n, kind)
+    } else {
+        0
+    };
+    a | b | c | d
+}
+
+// Random clauses. Both masks of a clause come from one random number.
+fn fill_clauses(list: &mut [u64; 121], n: u64, kind: u64, width: u64, seed: u64) -> u64 {
+    let mut random = seed;
+    let mut j = 0;
+    while j < 121 {
+        let odd = j % 2;
+        random = if odd == 0 { next(random) } else { random };
+        list[j] = mask(random, odd as u64, n, kind, width);
+        j += 1;
+    }
+    random
+}
+
+// The low n bits. The test is for the proof alone, as no size is 0.
+fn low_bits(bits: u64, n: u64) -> u64 {
+    let size = 1u64 << (n % 32);
+    if size == 0 { 0 } else { bits % size }
+}
+
+// A state to store: any, or one of the lowest; now and then no state at all.
+fn stored(random: u64, n: u64) -> u64 {
+    let bits = random >> 8;
+    let any = random % 64;
+    if any == 0 {
+        return bits;
+    }
+    if any == 1 {
+        return bits % HALF;
+    }
+    let state = low_bits(bits, n);
+    if any < 32 {
+        return state;
+    }
+    state % 16
+}
+
+fn fill_states(states: &mut [u64; 40], n: u64, seed: u64) -> u64 {
+    let mut random = seed;
+    let mut j = 0;
+    while j < 40 {
+        random = next(random);
+        states[j] = stored(random, n);
+        j += 1;
+    }
+    random
+}
+
+// A level from 0 to 5.
+fn level(random: u64) -> u32 {
+    ((random >> 20) % 6) as u32
+}
+
+fn fill_levels(levels: &mut [u32; 40], seed: u64) -> u64 {
+    let mut random = seed;
+    let mut j = 0;
+    while j < 40 {
+        random = next(random);
+        levels[j] = level(random);
+        j += 1;
+    }
+    random
+}
+
+// Whether the clause is true of the word, literal by literal from bit 0 up.
+fn clause_holds(ones: u64, zeros: u64, word: u64) -> bool {
+    let mut a = ones;
+    let mut b = zeros;
+    let mut w = word;
+    let mut left = ones | zeros;
+    while left != 0 {
+        if w % 2 == 0 {
+            if b % 2 == 1 {
+                return true;
+            }
+        } else if a % 2 == 1 {
+            return true;
+        }
+        a /= 2;
+        b /= 2;
+        w /= 2;
+        left /= 2;
+    }
+    false
+}
+
+// Whether every clause is true of the word. A last mask alone is no clause.
+fn list_holds(list: &[u64], word: u64) -> bool {
+    let mut j = 0;
+    while j < list.len() {
+        let second = j + 1;
+        if second < list.len() {
+            if !clause_holds(list[j], list[second], word) {
+                return false;
+            }
+        }
+        j = second + 1;
+    }
+    true
+}
+
+// Whether entry j counts at level i.
+fn counts(levels: &[u32], j: usize, i: u32) -> bool {
+    if j < levels.len() {
+        i <= levels[j]
+    } else {
+        true
+    }
+}
+
+// Whether the state is stored with a level of i or more.
+fn is_stored(states: &[u64], levels: &[u32], i: u32, state: u64) -> bool {
+    let mut j = states.len();
+    while 0 < j {
+        j -= 1;
+        if state == states[j] && counts(levels, j, i) {
+            return true;
+        }
+    }
+    false
+}
+
+// Whether the state is in R(i).
+fn inside(start: &[u64], states: &[u64], levels: &[u32], i: u32, state: u64) -> bool {
+    if i == 0 {
+        list_holds(start, state)
+    } else {
+        !is_stored(states, levels, i, state)
+    }
+}
+
+// The first state below `end` in R(i) of which, with the later half beside it, the list is true.
+fn walk(
+    end: u64,
+    start: &[u64],
+    list: &[u64],
+    states: &[u64],
+    levels: &[u32],
+    i: u32,
+    later: u64,
+) -> u64 {
+    let mut state = 0;
+    while state < end {
+        if list_holds(list, state | later) && inside(start, states, levels, i, state) {
+            return state;
+        }
+        state += 1;
+    }
+    NONE
+}
+
+// What the engine says.
+fn ask(
+    steps: bool,
+    n: u32,
+    start: &[u64],
+    list: &[u64],
+    states: &[u64],
+    levels: &[u32],
+    i: u32,
+    target: u64,
+) -> u64 {
+    let r = if steps {
+        question::step_in(n, start, list, states, levels, i, target)
+    } else {
+        question::bad_in(n, start, list, states, levels, i)
+    };
+    match r {
+        question::Answer::State(state) => state,
+        question::Answer::Nothing => NONE,
+    }
+}
+
+// One answer of the walk and one of the engine counted.
+fn count(t: Tally, walked: u64, asked: u64, seed: u64) -> Tally {
+    let none = walked == NONE;
+    Tally {
+        found: if none {
+            t.found
+        } else {
+            std::num::wrapping_add_u64(t.found, 1)
+        },
+        none: if none {
+            std::num::wrapping_add_u64(t.none, 1)
+        } else {
+            t.none
+        },
+        sum: if none {
+            t.sum
+        } else {
+            (t.sum % HALF + walked % HALF) % HALF
+        },
+        differ: if walked == asked {
+            t.differ
+        } else {
+            std::num::wrapping_add_u64(t.differ, 1)
+        },
+        seed,
+    }
+}
+
+// Which kind of question.
+fn asks_steps(shape: u64) -> bool {
+    (shape >> 4) % 2 == 1
+}
+
+// Where the literals of the list stand.
+fn kind_of(shape: u64) -> u64 {
+    if (shape >> 12) % 4 == 0 {
+        return WILD;
+    }
+    if asks_steps(shape) { LATER } else { LOW }
+}
+
+// A state to step to, or any number at times.
+fn target_of(shape: u64, n: u64, random: u64) -> u64 {
+    if (shape >> 8) % 8 == 0 {
+        return random;
+    }
+    low_bits(random, n)
+}
+
+// Both answers to a question, counted.
+fn compare(
+    t: Tally,
+    shape: u64,
+    n: u64,
+    start: &[u64],
+    list: &[u64],
+    states: &[u64],
+    levels: &[u32],
+    random: u64,
+) -> Tally {
+    let i = (shape % 5) as u32;
+    let steps = asks_steps(shape);
+    let target = target_of(shape, n, random);
+    let later = if steps { target % HALF * HALF } else { 0 };
+    let walked = walk(1u64 << (n % 32), start, list, states, levels, i, later);
+    let asked = ask(
+        steps,
+        (n % 32) as u32,
+        start,
+        list,
+        states,
+        levels,
+        i,
+        target,
+    );
+    count(t, walked, asked, random)
+}
+
+// A question from the front parts of what was filled: at times with a mask too many, and with more or fewer levels than states.
+fn cut(
+    t: Tally,
+    shape: u64,
+    sizes: u64,
+    start: [u64; 121],
+    list: [u64; 121],
+    states: [u64; 40],
+    levels: [u32; 40],
+    random: u64,
+) -> Tally {
+    let odd = (sizes >> 8) % 8 / 7;
+    let starts = ((sizes >> 16) % 5 * 2 + odd) as usize;
+    let clauses = ((sizes >> 24) % 61 * 2 + odd) as usize;
+    let stores = ((sizes >> 32) % 41) as usize;
+    let others = if (shape >> 16) % 4 == 0 {
+        sizes >> 40
+    } else {
+        sizes >> 32
+    };
+    let known = (others % 41) as usize;
+    compare(
+        t,
+        shape,
+        sizes % 12 + 1,
+        &start[..starts],
+        &list[..clauses],
+        &states[..stores],
+        &levels[..known],
+        random,
+    )
+}
+
+// One random question, counted.
+fn question(t: Tally) -> Tally {
+    let mut start = [0u64; 121];
+    let mut list = [0u64; 121];
+    let mut states = [0u64; 40];
+    let mut levels = [0u32; 40];
+    let shape = next(t.seed);
+    let sizes = next(shape);
+    let n = sizes % 12 + 1;
+    let width = shape >> 20;
+    let kind = if (shape >> 14) % 2 == 0 { WILD } else { LOW };
+    let random = fill_clauses(&mut start, n, kind, width, sizes);
+    let random = fill_clauses(&mut list, n, kind_of(shape), width, random);
+    let random = fill_states(&mut states, n, random);
+    let random = fill_levels(&mut levels, random);
+    cut(t, shape, sizes, start, list, states, levels, next(random))
+}
+
+fn report(name: &[u8], number: u64) {
+    io::write_all(1, name);
+    io::print_decimal(1, number);
+    io::write_all(1, b"\n");
+}
+
+fn main() {
+    let mut t = Tally {
+        found: 0,
+        none: 0,
+        sum: 0,
+        differ: 0,
+        seed: SEED,
+    };
+    let mut left = QUESTIONS;
+    while 0 < left {
+        t = question(t);
+        left -= 1;
+    }
+    report(b"questions ", QUESTIONS);
+    report(b"with an answer ", t.found);
+    report(b"with none ", t.none);
+    report(b"sum of the answers modulo 2^32 ", t.sum);
+    report(b"answered otherwise by the engine ", t.differ);
+}
