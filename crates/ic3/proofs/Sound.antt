@@ -218,13 +218,13 @@ module _ (M : Model) where
   react-fine room N st (raise i s todo) none K w a =
       tested-fine N (put st s (suc i)) (raised-kept N st K i s w a) i todo (w .above) (w .below)
 
-  next-fine : (room : ℕ) (c : Config) → Fine (go c) → Fine (next M room c)
+  pub next-fine : (room : ℕ) (c : Config) → Fine (go c) → Fine (next M room c)
   unfolding next
   next-fine room c f =
       let p = wanted M (c .N) (c .store) (c .phase) in
       react-fine room (c .N) (c .store) (c .phase) (least (M .size) p) (f .0) (f .1) (least-answers (M .size) p)
 
-  opening-fine : Fine (go (at 0 [] look))
+  pub opening-fine : Fine (go (at 0 [] look))
   unfolding levelOf
   opening-fine = (record { tidy = tt; states = λ s h. absurd (omega arith); frames = frames-none M }, tt)
 

@@ -1,3 +1,13 @@
 -- The root of the theorems.
-pub mod Call
-pub mod Sequencers
+pub mod Windows
+pub mod Duties
+pub mod Keeping
+pub mod Levels
+pub mod Rounds
+pub mod Asked
+pub mod Raising
+pub mod Taken
+pub mod Turns
+pub mod Fronts
+pub mod Closing
+pub mod Promising

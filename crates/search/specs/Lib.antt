@@ -1,3 +1,2 @@
 -- The root of the definitions.
-pub mod Call
-pub mod Sequencers
+pub mod Lent

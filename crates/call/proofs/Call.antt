@@ -13,7 +13,7 @@ use Rattle.ic3.specs.Search.{Verdict, safe, unsafe, noRoom, spent, searched}
 use Rattle.ic3.proofs.Tests.{clash}
 use Rattle.ic3.proofs.Fit.{FitsEnding, ending-fits}
 use Rattle.system.specs.System.{System, model, refusalOf}
-use Rattle.search.specs.Call.{Stores, wrongStores, refused, says-nothing, Result, result, over, leaves, ended, called}
+use Rattle.call.specs.Call.{Stores, wrongStores, refused, says-nothing, Result, result, over, leaves, ended, called}
 
 -- the system's own refusals come first
 pub refused-system : (y : System) (s : Stores) (r : ℕ) → refusalOf y ≡ suc r → refused y s ≡ suc r

@@ -6,7 +6,7 @@ use mathlib.Core.Path.{_≡_}
 use lib.Dec.{eqb}
 use lib.ListN.{length}
 use Rattle.system.specs.System.{System, model}
-use Rattle.search.specs.Call.{Stores, wrongStores, Said, says-safe, says-unsafe, says-nothing, Result, called}
+use Rattle.call.specs.Call.{Stores, wrongStores, Said, says-safe, says-unsafe, says-nothing, Result, called}
 
 -- a step, from one state to another
 pub record Step : Type 0 where

@@ -12,9 +12,9 @@ use Rattle.ic3.specs.Model.{least}
 use Rattle.ic3.specs.Search.{levelOf, put, states, R, wanted, Verdict, safe, unsafe, noRoom, spent, judge, round, tested, found, deeper, settled, fits, kept, react, next, run, searched}
 use Rattle.ic3.proofs.Tests.{clash}
 use Rattle.system.specs.System.{System, literalTrue, clauseTrue, listTrue, word, model, wrongSize, wrongCount, wrongBit, refusalOf}
-use Rattle.search.specs.Call.{Stores, Result, ended}
-use Rattle.search.specs.Sequencers.{Step, given, ring, ringGiven, late, lateGiven, chain, chainGiven, Given, Sequencer, sequencer, sequencers, Ends, Worked}
-use Rattle.search.proofs.Call.{refused-not, called-searches}
+use Rattle.call.specs.Call.{Stores, Result, ended}
+use Rattle.call.specs.Sequencers.{Step, given, ring, ringGiven, late, lateGiven, chain, chainGiven, Given, Sequencer, sequencer, sequencers, Ends, Worked}
+use Rattle.call.proofs.Call.{refused-not, called-searches}
 
 -- ---- the systems are the ones given
 differ : Bool → Bool → Bool

@@ -1,0 +1,4 @@
+-- The root of the definitions.
+pub mod Call
+pub mod Sequencers
+pub mod Promise

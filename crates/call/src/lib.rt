@@ -1,0 +1,70 @@
+// What a call of the search returns, and the small total functions on the lent stores.
+ghost use mathlib.Core.Path.{_≡_};
+ghost use lib.ListN.{length, replicate};
+ghost use Rattle.call.specs.Call.{wrongStores};
+ghost use Rattle.call.specs.Promise.{evidenceOf};
+
+// The verdict, with the evidence's length: safe, unsafe, or neither.
+pub enum Verdict {
+    SafeBy(usize),
+    UnsafeBy(usize),
+    Neither,
+}
+
+// The number, the verdict, and the count of questions asked.
+pub struct Outcome {
+    pub number: u32,
+    pub verdict: Verdict,
+    pub questions: u32,
+}
+
+// Refusal 4.
+pub fn wrong_stores(states: &[u64], levels: &[u32], path: &[u64]) -> bool
+    ensures { λ r. ⌜ r ≡ wrongStores (record { states = now (states .entry); levels = now (levels .entry); path = now (path .entry) }) ⌝ }
+{
+    if states.len() != levels.len() {
+        return true;
+    }
+    if states.len() > 65536 {
+        return true;
+    }
+    path.len() < states.len() + 2
+}
+
+// Everything becomes zero.
+pub fn clear(store: &mut [u64])
+    ensures { λ _. ⌜ now (store .exit) ≡ replicate (length (now (store .entry))) 0 ⌝ }
+{
+    let mut j = 0;
+    while j < store.len() {
+        store[j] = 0;
+        j += 1;
+    }
+}
+
+pub fn clear_levels(levels: &mut [u32])
+    ensures { λ _. ⌜ now (levels .exit) ≡ replicate (length (now (levels .entry))) 0 ⌝ }
+{
+    let mut j = 0;
+    while j < levels.len() {
+        levels[j] = 0;
+        j += 1;
+    }
+}
+
+// The evidence: the front part of the state store after safe, of the path store after unsafe, and else the empty front of the state store.
+pub fn evidence<'a>(states: &'a [u64], path: &'a [u64], verdict: Verdict) -> &'a [u64]
+    ensures { λ r. ⌜ now r ≡ evidenceOf verdict (now (states .entry)) (now (path .entry)) ⌝ }
+{
+    match verdict {
+        Verdict::SafeBy(n) => {
+            if n <= states.len() {
+                &states[..n]
+            } else {
+                states
+            }
+        }
+        Verdict::UnsafeBy(n) => { if n <= path.len() { &path[..n] } else { path } }
+        Verdict::Neither => &states[..0],
+    }
+}

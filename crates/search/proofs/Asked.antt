@@ -1,0 +1,61 @@
+-- The questions over the fronts of the two stores are those that the search asks of its model: the front of each, entry by entry, is the store.
+-- Assumes nothing.
+use Prim.Native.Nat.{ℕ, zero, suc, _≤_}
+use mathlib.Core.List.{List, [], _∷_}
+use mathlib.Core.Option.{Option}
+use mathlib.Core.Path.{_≡_, refl, sym, ap, _∙_}
+use native.Mathlib.Omega.{arith}
+use lib.ListN.{length, take, getD}
+use lib.Seq.{length-take-le}
+use Rattle.ic3.proofs.Store.{Tidy}
+use Rattle.ic3.specs.Search.{look, settle, raise, at, react, next}
+use Rattle.system.specs.System.{System, model}
+use Rattle.question.specs.Question.{badIn, stepIn}
+use Rattle.question.specs.Stored.{stored}
+use Rattle.question.proofs.Model.{bad-asked, step-asked, raise-asked}
+use Rattle.search.specs.Lent.{window, storeOf, Asks}
+
+-- a window from the second entry on is one of the tails
+window-tails : (left i x k : ℕ) (ss ls : List ℕ) → window left (suc i) (x ∷ ss) (k ∷ ls) ≡ window left i ss ls
+unfolding window
+window-tails zero i x k ss ls = refl
+window-tails (suc left) i x k ss ls = ap (λ w. record { state = getD ss i 0; level = getD ls i 0 } ∷ w) (window-tails left (suc i) x k ss ls)
+
+pub stored-fronts : (count : ℕ) (ss ls : List ℕ) → count ≤ length ss → count ≤ length ls → stored (take count ss) (take count ls) ≡ storeOf count ss ls
+unfolding stored storeOf window
+stored-fronts zero ss ls h l = refl
+stored-fronts (suc count) [] ls h l = absurd (omega arith)
+stored-fronts (suc count) (x ∷ ss) [] h l = absurd (omega arith)
+stored-fronts (suc count) (x ∷ ss) (k ∷ ls) h l =
+    rw (window-tails count 0 x k ss ls) (ap (λ w. record { state = x; level = k } ∷ w) (stored-fronts count ss ls (omega arith) (omega arith)))
+
+module _ (y : System) (count : ℕ) (ss ls : List ℕ) (a : Asks (y .n) count ss ls) where
+  same : length (take count ss) ≤ length (take count ls)
+  same = rw (length-take-le count ss (a .states), length-take-le count ls (a .levels)) (omega arith)
+
+  fronts-tidy : Tidy (stored (take count ss) (take count ls))
+  fronts-tidy = rw (stored-fronts count ss ls (a .states) (a .levels)) (a .tidy)
+
+  -- an answer of steps 1 and 2, taken in
+  pub look-next : (room N : ℕ) (o : Option ℕ) → o ≡ badIn (y .n) (y .start) (y .bad) (take count ss) (take count ls) N
+      → next (model y) room (at N (storeOf count ss ls) look) ≡ react room N (storeOf count ss ls) look o
+  unfolding next
+  look-next room N o e =
+      ap (react room N (storeOf count ss ls) look)
+      (sym (e ∙ (rw (stored-fronts count ss ls (a .states) (a .levels)) at (bad-asked y (take count ss) (take count ls) (a .small) same fronts-tidy N))))
+
+  -- an answer of step 3
+  pub settle-next : (room N k s : ℕ) (ds : List ℕ) (o : Option ℕ) → o ≡ stepIn (y .n) (y .start) (y .step) (take count ss) (take count ls) k s
+      → next (model y) room (at N (storeOf count ss ls) (settle k s ds)) ≡ react room N (storeOf count ss ls) (settle k s ds) o
+  unfolding next
+  settle-next room N k s ds o e =
+      ap (react room N (storeOf count ss ls) (settle k s ds))
+      (sym (e ∙ (rw (stored-fronts count ss ls (a .states) (a .levels)) at (step-asked y (take count ss) (take count ls) (a .small) same fronts-tidy N k s ds))))
+
+  -- an answer of step 4
+  pub raise-next : (room N i s : ℕ) (todo : List ℕ) (o : Option ℕ) → o ≡ stepIn (y .n) (y .start) (y .step) (take count ss) (take count ls) i s
+      → next (model y) room (at N (storeOf count ss ls) (raise i s todo)) ≡ react room N (storeOf count ss ls) (raise i s todo) o
+  unfolding next
+  raise-next room N i s todo o e =
+      ap (react room N (storeOf count ss ls) (raise i s todo))
+      (sym (e ∙ (rw (stored-fronts count ss ls (a .states) (a .levels)) at (raise-asked y (take count ss) (take count ls) (a .small) same fronts-tidy N i s todo))))

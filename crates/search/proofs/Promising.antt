@@ -1,0 +1,194 @@
+-- The public call's promise, of a refusal and of a search that was closed. Evidence and zeros depend on the lent stores' lengths alone, so the stores
+-- that the search ends with give what the lent ones would; demands 2 and 3 are those of the definition, since number, verdict and questions are.
+-- Assumes nothing.
+use Prim.Native.Nat.{ℕ, zero, suc, _+_, _≤_}
+use mathlib.Core.Bool.{true, false}
+use mathlib.Core.List.{List, []}
+use mathlib.Core.Path.{_≡_, refl, sym, ap, _∙_}
+use native.Mathlib.Omega.{arith}
+use lib.ListN.{length}
+use Rattle.ic3.specs.Model.{Model}
+use Rattle.ic3.specs.Search.{Verdict as Ending, safe, unsafe, noRoom, spent, searched}
+use Rattle.ic3.specs.Demands.{Demand-2, Answered}
+use Rattle.ic3.proofs.Fit.{FitsEnding, ending-fits}
+use Rattle.ic3.proofs.Sound.{demand-2}
+use Rattle.ic3.proofs.Bound.{demand-3}
+use Rattle.system.specs.System.{System, model, refusalOf}
+use Rattle.system.proofs.Refusals.{size-right, refusal-none}
+use Rattle.call.specs.Call.{Stores, wrongStores, refused, leaves, ended, called}
+use Rattle.search.specs.Lent.{verdictOf, BoundedEnd, FitsEnd, Lends, Ends}
+use Rattle.call.specs.Promise.{saidOf, lengthOf, resultOf, Right, Promised}
+use Rattle.search.specs.declared.End.{End}
+use Rattle.search.specs.declared.End.the-variants.{Safe, Unsafe, NoRoom, Spent}
+use Rattle.call.specs.declared.Outcome.{Outcome}
+use Rattle.call.specs.declared.Verdict.{Verdict}
+use Rattle.call.specs.declared.Verdict.the-variants.{SafeBy, UnsafeBy, Neither}
+use Rattle.call.proofs.Call.{refused-system, refused-stores, called-refused, called-searches, stores-fitting, Lengths}
+use Rattle.search.proofs.Closing.{part-length, over-same, Closes}
+
+-- ---- how a search ends
+module _ (s s' : Stores) (w : Lengths s s') where
+  -- what is left depends on the stores' lengths alone
+  leaves-same : (front path : List ℕ) → leaves s' front path ≡ leaves s front path
+  unfolding leaves
+  leaves-same front path =
+      rw (
+        over-same front (s' .states) (s .states) (w .states),
+        over-same [] (s' .levels) (s .levels) (w .levels),
+        over-same path (s' .path) (s .path) (w .path),
+      )
+
+  -- so does the whole result
+  pub ended-same : (q : ℕ) (v : Ending) → ended s' q v ≡ ended s q v
+  unfolding ended
+  ended-same q (safe evidence) = rw (leaves-same evidence [])
+  ended-same q (unsafe path) = rw (leaves-same [] path)
+  ended-same q noRoom = rw (leaves-same [] [])
+  ended-same q spent = rw (leaves-same [] [])
+
+module _ (s : Stores) (q : ℕ) where
+  -- every ending reports the questions
+  ended-questions : (v : Ending) → ended s q v .questions ≡ q
+  unfolding ended
+  ended-questions (safe evidence) = refl
+  ended-questions (unsafe path) = refl
+  ended-questions noRoom = refl
+  ended-questions spent = refl
+
+  -- an answer has the number 0
+  ended-answers : (v : Ending) → Answered v → ended s q v .number ≡ 0
+  unfolding ended
+  ended-answers (safe evidence) a = refl
+  ended-answers (unsafe path) a = refl
+  ended-answers noRoom a = absurd a
+  ended-answers spent a = absurd a
+
+  -- what is said tells which verdict it was, and the evidence is the verdict's own
+  ended-right : (M : Model) (v : Ending) (w : Verdict) (evidence : List ℕ) → saidOf w ≡ ended s q v .said → evidence ≡ ended s q v .evidence
+      → Demand-2 M v → Right M w evidence
+  unfolding ended
+  ended-right M (safe x) (SafeBy n) evidence a b d = rw b d
+  ended-right M (safe x) (UnsafeBy n) evidence a b d = absurd (let o : _≡_ {A = ℕ} 0 1 = cc in omega arith)
+  ended-right M (unsafe x) (SafeBy n) evidence a b d = absurd (let o : _≡_ {A = ℕ} 0 1 = cc in omega arith)
+  ended-right M (unsafe x) (UnsafeBy n) evidence a b d = rw b d
+  ended-right M noRoom (SafeBy n) evidence a b d = absurd (let o : _≡_ {A = ℕ} 0 1 = cc in omega arith)
+  ended-right M noRoom (UnsafeBy n) evidence a b d = absurd (let o : _≡_ {A = ℕ} 0 1 = cc in omega arith)
+  ended-right M spent (SafeBy n) evidence a b d = absurd (let o : _≡_ {A = ℕ} 0 1 = cc in omega arith)
+  ended-right M spent (UnsafeBy n) evidence a b d = absurd (let o : _≡_ {A = ℕ} 0 1 = cc in omega arith)
+  ended-right M v Neither evidence a b d = tt
+
+module _ (y : System) (room allowance : ℕ) (e : End) (asked : ℕ) (ss ls path : List ℕ) (w : Ends y room allowance e asked ss ls path) where
+  -- a path is longer than the room by at most two
+  pub ends-fit : FitsEnd e (length path)
+  ends-fit = pick e (rw (sym (w .verdict)) at (ending-fits (model y) room allowance))
+    where
+      pick : (e : End) → FitsEnding (model y) room (verdictOf e ss ls path) (searched (model y) room allowance .questions) → FitsEnd e (length path)
+      pick (Safe i count) f = tt
+      pick (Unsafe k) f = omega (arith, f, part-length k 0 path, w .lends .enough)
+      pick NoRoom f = tt
+      pick Spent f = tt
+
+  -- what `close` requires, since the search keeps the stores' lengths
+  pub ends-closing : BoundedEnd e (length ss) × (length ls ≡ length ss) × (length ss + 2 ≤ length path) × FitsEnd e (length path)
+  ends-closing =
+      let l = w .lends in
+      rw (l .states) (w .bounded, l .levels, l .enough, ends-fit)
+
+-- ---- the promise
+module _ (y : System) (lent : Stores) (allowance : ℕ) where
+  -- a refusal: nothing is said, nothing asked, and the stores are untouched
+  pub refused-promised : (r : ℕ) (o : Outcome) → refused y lent ≡ suc r → o ≡ record { number = suc r; verdict = Neither; questions = 0 }
+      → Promised y lent allowance o lent
+  refused-promised r o h q =
+      let e = called-refused y lent allowance r h in
+      rw q (record {
+        equation = sym e;
+        evidence-length = rw e;
+        demand-2 = tt;
+        demand-3 = λ m D. record { few = omega arith; answers = λ z f g. absurd (omega arith) };
+        one-m = demand-3 (model y) .exists;
+      })
+
+  -- refusals 1 to 3 come from the system alone
+  pub system-promised : (r : ℕ) → r ≡ refusalOf y → (r ≡ 0 → ⊥)
+      → Promised y lent allowance (record { number = r; verdict = Neither; questions = 0 }) lent
+  system-promised zero e f = absurd (f refl)
+  system-promised (suc r) e f = refused-promised r _ (refused-system y lent r (sym e)) refl
+
+  -- refusal 4 comes from the stores alone
+  pub stores-promised : refusalOf y ≡ 0 → wrongStores lent ≡ true
+      → Promised y lent allowance (record { number = 4; verdict = Neither; questions = 0 }) lent
+  stores-promised e w = refused-promised 3 _ (refused-stores y lent e w) refl
+
+  -- what is not refused is lent as the search needs it
+  pub lends : refusalOf y ≡ 0 → wrongStores lent ≡ false → Lends (y .n) (length (lent .states)) (lent .states) (lent .levels) (lent .path)
+  lends e w =
+      let f = stores-fitting lent w in
+      record {
+        small = size-right (y .n) (refusal-none y e .0) .1;
+        most = f .most;
+        states = refl;
+        levels = sym (f .same);
+        enough = f .path;
+      }
+
+  module _ (h : refused y lent ≡ 0) (e : End) (asked : ℕ) (ss ls path : List ℕ) (w : Ends y (length (lent .states)) allowance e asked ss ls path)
+      (k : Lengths lent (record { states = ss; levels = ls; path = path })) where
+    -- the stores and the verdict which the search ended with
+    abbrev s : Stores
+    s = record { states = ss; levels = ls; path = path }
+
+    abbrev v : Ending
+    v = verdictOf e ss ls path
+
+    -- the call's result is that of the stores which the search ended with
+    called-ends : called y lent allowance ≡ ended s asked v
+    called-ends =
+        called-searches y lent allowance h
+        ∙ (sym (ended-same lent s k _ _) ∙ rw (w .verdict, w .questions))
+
+    -- a search that ended and was closed: what it returns is the call's result, so what holds of the definition's search holds of it
+    pub searched-promised : (o : Outcome) (after : Stores) → Closes s e asked o after → Promised y lent allowance o after
+    searched-promised o after c =
+        let room = length (lent .states) in
+        let d : Demand-2 (model y) v = rw (w .verdict) (demand-2 (model y) room allowance) in
+        record {
+          equation = c .0 ∙ sym called-ends;
+          evidence-length = rw called-ends (c .1);
+          demand-2 = ended-right s asked (model y) v (o .verdict) _ (ap (λ r. r .said) (c .0)) (ap (λ r. r .evidence) (c .0)) d;
+          demand-3 = λ m D. let b = demand-3 (model y) .bounded m D in
+              record {
+                few = rw (ap (λ r. r .questions) (c .0) ∙ (ended-questions s asked v ∙ w .questions)) (b .few room allowance);
+                answers = λ z f g. ap (λ r. r .number) (c .0) ∙ ended-answers s asked v (rw (w .verdict) (b .answers room allowance f g));
+              };
+          one-m = demand-3 (model y) .exists;
+        }
+
+-- ---- the promise leaves no choice
+-- what is said and the evidence's length make the verdict
+verdict-same : (v w : Verdict) → saidOf v ≡ saidOf w → lengthOf v ≡ lengthOf w → v ≡ w
+verdict-same (SafeBy n) (SafeBy k) a b = ap SafeBy b
+verdict-same (SafeBy n) (UnsafeBy k) a b = cc
+verdict-same (SafeBy n) Neither a b = cc
+verdict-same (UnsafeBy n) (SafeBy k) a b = cc
+verdict-same (UnsafeBy n) (UnsafeBy k) a b = ap UnsafeBy b
+verdict-same (UnsafeBy n) Neither a b = cc
+verdict-same Neither (SafeBy k) a b = cc
+verdict-same Neither (UnsafeBy k) a b = cc
+verdict-same Neither Neither a b = refl
+
+-- an outcome is its number, its verdict and its questions
+outcome-same : (n n' : ℕ) (v v' : Verdict) (q q' : ℕ) → n ≡ n' → v ≡ v' → q ≡ q'
+    → _≡_ {A = Outcome} (record { number = n; verdict = v; questions = q }) (record { number = n'; verdict = v'; questions = q' })
+outcome-same n n' v v' q q' a b c = rw (a, b, c)
+
+-- any two outcomes that are promised, and the stores left with them, are equal
+pub one-outcome : (y : System) (lent : Stores) (allowance : ℕ) (o o' : Outcome) (after after' : Stores) → Promised y lent allowance o after
+    → Promised y lent allowance o' after' → (o ≡ o') × (after ≡ after')
+one-outcome y lent allowance o o' after after' p p' =
+    let e : resultOf o after ≡ resultOf o' after' = p .equation ∙ sym (p' .equation) in (
+      outcome-same _ _ _ _ _ _ (ap (λ r. r .number) e)
+          (verdict-same (o .verdict) (o' .verdict) (ap (λ r. r .said) e) (p .evidence-length ∙ sym (p' .evidence-length)))
+          (ap (λ r. r .questions) e),
+      ap (λ r. r .after) e,
+    )

@@ -1,0 +1,73 @@
+-- Step 4 at entry j of level i, over the lent stores. If a state is found, the round goes on behind the entry. If none is, the entry's level becomes
+-- i + 1: no earlier entry has its state, since a tidy store has no state twice, so that is `put`; and the entries behind it are as they were.
+-- Assumes nothing.
+use Prim.Native.Nat.{ℕ, zero, suc, _+_, _-_, _≤_, _<_}
+use mathlib.Core.List.{List}
+use mathlib.Core.Option.{none, some}
+use mathlib.Core.Path.{_≡_, refl, sym, ap, _∙_}
+use native.Mathlib.Omega.{arith}
+use native.Mathlib.Numerals.{add-one}
+use borrow.Author.Tests.{eqb-true, eqb-false}
+use lib.Dec.{eqb}
+use lib.ListN.{getD, set, take}
+use Rattle.ic3.specs.Search.{levelOf, states, raise, at, put, react, next}
+use Rattle.ic3.proofs.Tests.{test}
+use Rattle.ic3.proofs.Store.{Tidy, put-tidy}
+use Rattle.system.specs.System.{System, model}
+use Rattle.question.specs.Question.{stepIn}
+use Rattle.search.specs.Lent.{window, storeOf, roundFrom, Absent, Asks}
+use Rattle.search.proofs.Windows.{window-apart}
+use Rattle.search.proofs.Keeping.{put-found}
+use Rattle.search.proofs.Rounds.{level-entry, round-below}
+use Rattle.search.proofs.Asked.{raise-next}
+
+-- no earlier entry of a tidy window has the state of entry j: behind the earlier one its state has no level
+entry-first : (count j : ℕ) (ss ls : List ℕ) (left m : ℕ) → left + m ≡ count → j < count → Tidy (window left m ss ls)
+    → Absent ss m j (getD ss j 0)
+unfolding window
+entry-first count j ss ls zero m e h w l a b q = omega arith
+entry-first count j ss ls (suc left) m e h w l a b q =
+    test (eqb l m)
+    (λ p. let r = level-entry count ss ls j left (suc m) (omega arith) (omega (arith, eqb-true l m p)) h (w .2) in
+    let z : getD ss m 0 ≡ getD ss j 0 = rw (eqb-true l m p) at q in
+    absurd (omega (arith, ap (levelOf (window left (suc m) ss ls)) z, w .1, r .0, r .1)))
+    (λ p. entry-first count j ss ls left (suc m) (omega arith) h (w .2) l (omega (arith, eqb-false l m p)) b q)
+
+-- a stored level is at least 1
+pub entry-level : (count i j : ℕ) (ss ls : List ℕ) → Tidy (storeOf count ss ls) → j < count → getD ls j 0 ≡ i → 1 ≤ i
+unfolding storeOf
+entry-level count i j ss ls w h e = rw e at (level-entry count ss ls j count 0 (omega arith) (omega arith) h w .1)
+
+module _ (y : System) (N count i j : ℕ) (ss ls : List ℕ) (a : Asks (y .n) count ss ls) (h : j < count) (l : i < N) where
+  -- the entry gets the next level
+  raised-store : storeOf count ss (set ls j (i + 1)) ≡ put (storeOf count ss ls) (getD ss j 0) (suc i)
+  unfolding storeOf
+  raised-store =
+      let b = a .levels in
+      rw (add-one i)
+      (put-found count 0 j ss ls (getD ss j 0) (suc i) (omega arith) (omega arith) refl
+      (entry-first count j ss ls count 0 (omega arith) h (a .tidy)) (omega arith))
+
+  -- the store stays tidy
+  pub raised-tidy : Tidy (storeOf count ss (set ls j (i + 1)))
+  raised-tidy = rw raised-store (put-tidy (storeOf count ss ls) (getD ss j 0) (suc i) (omega arith) (a .tidy))
+
+  -- a state was found: on behind the entry
+  pub raise-not : (room t : ℕ) → some t ≡ stepIn (y .n) (y .start) (y .step) (take count ss) (take count ls) i (getD ss j 0)
+      → roundFrom N count i (j + 1) ss ls
+      ≡ next (model y) room (at N (storeOf count ss ls) (raise i (getD ss j 0) (states (eqb i) (window (count - suc j) (suc j) ss ls))))
+  unfolding react
+  raise-not room t q =
+      (rw (add-one j) (round-below N count ss ls i (suc j) l))
+      ∙ sym (raise-next y count ss ls a room N i (getD ss j 0) (states (eqb i) (window (count - suc j) (suc j) ss ls)) (some t) q)
+
+  -- none was found: on behind the entry, with the entry's level raised
+  pub raise-up : (room : ℕ) → none ≡ stepIn (y .n) (y .start) (y .step) (take count ss) (take count ls) i (getD ss j 0)
+      → roundFrom N count i (j + 1) ss (set ls j (i + 1))
+      ≡ next (model y) room (at N (storeOf count ss ls) (raise i (getD ss j 0) (states (eqb i) (window (count - suc j) (suc j) ss ls))))
+  unfolding react
+  raise-up room q =
+      (rw (add-one j)
+      (round-below N count ss (set ls j (i + 1)) i (suc j) l
+      ∙ rw (raised-store, window-apart (count - suc j) (suc j) j ss ls (i + 1) (omega arith)) refl))
+      ∙ sym (raise-next y count ss ls a room N i (getD ss j 0) (states (eqb i) (window (count - suc j) (suc j) ss ls)) none q)

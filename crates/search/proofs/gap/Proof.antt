@@ -1,0 +1,100 @@
+-- `search::gap` meets its contract. The loop over the levels has as its invariant that each level it passed is taken; the walk inside, that no
+-- entry it passed has the level. Where the walk ends at an entry, that entry takes the level; where it has passed all, the level is the gap.
+-- The measures are the levels and the entries left. Assumes nothing.
+use Prim.Native.Nat.{_≤_, _-_}
+use native.Mathlib.Omega.{arith}
+use borrow.Author.Needs.{needs}
+use Rattle.search.specs.Lent.{Absent}
+use Rattle.search.proofs.Levels.{absent-none, absent-more, AllTaken, taken-none, taken-more}
+use Rattle.search.proofs.gap.Statement.{statement}
+use Rattle.search.proofs.gap.Tie as tie
+
+abbrev Inv-loop : tie.InvT-loop
+Inv-loop levels count top i j₀ j = (j ≤ count) × Absent levels 0 j i
+
+abbrev μ-loop : tie.MeasureT-loop
+μ-loop levels count top i j₀ j = count - j
+
+abbrev Inv-levels : tie.InvT-levels
+Inv-levels levels count top i₀ i = (1 ≤ i) × (i ≤ top) × AllTaken levels count i
+
+abbrev μ-levels : tie.MeasureT-levels
+μ-levels levels count top i₀ i = top - i
+
+levels-holds : tie.Need-levels-holds Inv-loop μ-loop Inv-levels μ-levels
+levels-holds c = (search needs, search needs, taken-none (c .args .levels .now) _)
+
+loop-holds : tie.Need-loop-holds Inv-loop μ-loop Inv-levels μ-levels
+loop-holds c = (search needs, absent-none (c .before .before .args .levels .now) _ _)
+
+mul-if3 : tie.Need-mul-if3 Inv-loop μ-loop Inv-levels μ-levels
+mul-if3 c = search needs
+
+shared-slice-read-if3 : tie.Need-shared-slice-read-if3 Inv-loop μ-loop Inv-levels μ-levels
+shared-slice-read-if3 c = search needs
+
+add-j : tie.Need-add-j Inv-loop μ-loop Inv-levels μ-levels
+add-j c = search needs
+
+loop-less : tie.Need-loop-less Inv-loop μ-loop Inv-levels μ-levels
+loop-less c = search needs
+
+loop-again : tie.Need-loop-again Inv-loop μ-loop Inv-levels μ-levels
+loop-again c =
+    let at-loop = c .before .before .before in
+    (search needs, absent-more (at-loop .before .before .before .args .levels .now) _ _ _ (at-loop .loop .inv .1) (c .if3 .left))
+
+add-i : tie.Need-add-i Inv-loop μ-loop Inv-levels μ-levels
+add-i c = search needs
+
+levels-less : tie.Need-levels-less Inv-loop μ-loop Inv-levels μ-levels
+levels-less c = search needs
+
+levels-again : tie.Need-levels-again Inv-loop μ-loop Inv-levels μ-levels
+levels-again c =
+    let at-loop = c .before .before .before in
+    let at-levels = at-loop .before .before in (
+      search needs,
+      search needs,
+      taken-more (at-levels .before .args .levels .now) _ _ (at-loop .loop .j) (at-levels .levels .inv .2) (omega arith) (c .if3 .taken),
+    )
+
+returns : tie.Need-returns Inv-loop μ-loop Inv-levels μ-levels
+returns c =
+    record {
+      from-one = omega arith;
+      to-top = omega arith;
+      taken = rw (c .if1 .taken) at (c .before .levels .inv .2);
+      free = λ l. absurd (omega arith);
+    }
+
+returns-2 : tie.Need-returns-2 Inv-loop μ-loop Inv-levels μ-levels
+returns-2 c =
+    let at-loop = c .before in
+    record {
+      from-one = omega arith;
+      to-top = omega arith;
+      taken = at-loop .before .before .levels .inv .2;
+      free = λ l. rw (c .if2 .taken) at (at-loop .loop .inv .1);
+    }
+
+pub gap-spec : {M : Type 1} → statement M
+gap-spec =
+    tie.close
+    (tie.spec
+    Inv-loop
+    μ-loop
+    Inv-levels
+    μ-levels
+    levels-holds
+    loop-holds
+    mul-if3
+    shared-slice-read-if3
+    add-j
+    loop-less
+    loop-again
+    add-i
+    levels-less
+    levels-again
+    returns
+    returns-2)

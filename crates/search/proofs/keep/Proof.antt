@@ -1,0 +1,85 @@
+-- `search::keep` meets its contract. The loop's invariant is `Fronted`: the states kept so far with those still to be kept are all that are to be
+-- kept, and from j on nothing is changed. The measure is the number of entries left. Assumes nothing.
+use Prim.Native.Nat.{_-_}
+use mathlib.Core.Logic.{⊎-elim}
+use native.Mathlib.Omega.{arith}
+use borrow.Author.Needs.{needs}
+use Rattle.search.proofs.Fronts.{Fronted, fronted-none, fronted-kept, fronted-passed, fronted-all}
+use Rattle.search.proofs.keep.Statement.{statement}
+use Rattle.search.proofs.keep.Tie as tie
+
+abbrev Inv-loop : tie.InvT-loop
+Inv-loop states₀ levels count i kept₀ j₀ states kept j = Fronted count i states₀ levels states kept j
+
+abbrev μ-loop : tie.MeasureT-loop
+μ-loop states₀ levels count i kept₀ j₀ states kept j = count - j
+
+loop-holds : tie.Need-loop-holds Inv-loop μ-loop
+loop-holds c = fronted-none _ _ _ _
+
+mul-if1 : tie.Need-mul-if1 Inv-loop μ-loop
+mul-if1 c = search needs
+
+shared-slice-read-if1 : tie.Need-shared-slice-read-if1 Inv-loop μ-loop
+shared-slice-read-if1 c = search needs
+
+mul-states : tie.Need-mul-states Inv-loop μ-loop
+mul-states c = search needs
+
+slice-read-states : tie.Need-slice-read-states Inv-loop μ-loop
+slice-read-states c = search needs
+
+mul-states-2 : tie.Need-mul-states-2 Inv-loop μ-loop
+mul-states-2 c = search needs
+
+slice-write-states : tie.Need-slice-write-states Inv-loop μ-loop
+slice-write-states c = search needs
+
+add-kept : tie.Need-add-kept Inv-loop μ-loop
+add-kept c = search needs
+
+add-j : tie.Need-add-j Inv-loop μ-loop
+add-j c = search needs
+
+loop-less : tie.Need-loop-less Inv-loop μ-loop
+loop-less c = search needs
+
+loop-again : tie.Need-loop-again Inv-loop μ-loop
+loop-again c =
+    let l = c .before .before .before .loop in
+    let s = c .before .before .before .before in
+    let h = c .before .before .loop-test .taken in
+    ⊎-elim (λ w. rw (w .2, w .3) (fronted-kept _ _ _ _ _ _ _ (l .inv) h (s .pre .0) (w .0 .taken)))
+    (λ w. rw (w .1, w .2) (fronted-passed _ _ _ _ _ _ _ (l .inv) h (w .0 .left)))
+    (c .if1 .came)
+
+same-length : tie.Need-same-length Inv-loop μ-loop
+same-length c = c .before .loop .inv .same
+
+returns : tie.Need-returns Inv-loop μ-loop
+returns c =
+    let l = c .before .loop in (
+      fronted-all _ _ _ _ _ _ _ (l .inv) (c .loop-test .left),
+      omega (arith, l .inv),
+      l .inv .same,
+    )
+
+pub keep-spec : {M : Type 1} → statement M
+keep-spec =
+    tie.close
+    (tie.spec
+    Inv-loop
+    μ-loop
+    loop-holds
+    mul-if1
+    shared-slice-read-if1
+    mul-states
+    slice-read-states
+    mul-states-2
+    slice-write-states
+    add-kept
+    add-j
+    loop-less
+    loop-again
+    same-length
+    returns)

@@ -1,0 +1,86 @@
+-- `search::round` meets its contract. The loop's invariant: a round from entry j of level i on goes as one from the entry and the level that the
+-- loop stands at. If no entry from there on sits at the level, the round goes on at the next level; else it comes to the first that does. With
+-- no level left below N comes step 5. The measure is the levels left. Assumes nothing.
+use Prim.Native.Nat.{ℕ, _≤_, _-_}
+use mathlib.Core.List.{List}
+use mathlib.Core.Path.{_≡_, refl, sym, _∙_}
+use native.Mathlib.Omega.{arith}
+use borrow.Author.Needs.{needs}
+use Rattle.ic3.proofs.Store.{Tidy}
+use Rattle.search.specs.Lent.{storeOf, roundFrom, Absent}
+use Rattle.search.proofs.Rounds.{round-on, round-raises, round-judged}
+use Rattle.search.proofs.round.Statement.{statement}
+use Rattle.search.proofs.round.Tie as tie
+
+abbrev Inv-loop : tie.InvT-loop
+Inv-loop levels top count i j level₀ from₀ level from =
+    (i ≤ level) × (level ≤ top) × (from ≤ count)
+    × ((ss : List ℕ) → Tidy (storeOf count ss levels) → roundFrom top count i j ss levels ≡ roundFrom top count level from ss levels)
+
+abbrev μ-loop : tie.MeasureT-loop
+μ-loop levels top count i j level₀ from₀ level from = top - level
+
+loop-holds : tie.Need-loop-holds Inv-loop μ-loop
+loop-holds c = (search needs, search needs, search needs, λ ss w. refl)
+
+next-at-requires : tie.Need-next-at-requires Inv-loop μ-loop
+next-at-requires c κs = search needs
+
+returns : tie.Need-returns Inv-loop μ-loop
+returns c =
+    let here = c .before .before .before in
+    let args = here .before .before .args in (
+      λ ss path w. sym (here .loop .inv .3 ss w
+          ∙ round-raises (args .top) (args .count) ss (args .levels .now) w (here .loop .level) (here .loop .from) (c .before .next-at .result)
+          (omega arith) (omega arith) (omega arith) (c .before .next-at .ensures)),
+      omega arith,
+    )
+
+add-level : tie.Need-add-level Inv-loop μ-loop
+add-level c = search needs
+
+loop-less : tie.Need-loop-less Inv-loop μ-loop
+loop-less c = search needs
+
+loop-again : tie.Need-loop-again Inv-loop μ-loop
+loop-again c =
+    let here = c .before .before .before in
+    let args = here .before .before .args in
+    let first = c .before .next-at in
+    let all : first .result ≡ args .count = omega (arith, first .ensures .within) in
+    let absent : Absent (args .levels .now) (here .loop .from) (args .count) (here .loop .level) = rw all at (first .ensures .before) in (
+      search needs,
+      search needs,
+      search needs,
+      λ ss w. here .loop .inv .3 ss w
+          ∙ round-on (args .top) (args .count) ss (args .levels .now) w (here .loop .level) (here .loop .from) (omega arith) (omega arith)
+          (omega arith) absent,
+    )
+
+judge-requires : tie.Need-judge-requires Inv-loop μ-loop
+judge-requires c κs = search needs
+
+returns-2 : tie.Need-returns-2 Inv-loop μ-loop
+returns-2 c =
+    let here = c .before .before in
+    let args = here .before .before .args in (
+      λ ss path w. c .judge .ensures .0 ss path
+          ∙ sym (here .loop .inv .3 ss w
+          ∙ round-judged (args .top) (args .count) ss (args .levels .now) (here .loop .level) (here .loop .from) (omega arith)),
+      c .judge .ensures .1,
+    )
+
+pub round-spec : {M : Type 1} → statement M
+round-spec =
+    tie.close
+    (tie.spec
+    Inv-loop
+    μ-loop
+    loop-holds
+    next-at-requires
+    returns
+    add-level
+    loop-less
+    loop-again
+    judge-requires
+    returns-2)
