@@ -11,6 +11,10 @@ use Rattle.call.specs.declared.Outcome.{Outcome}
 use Rattle.call.specs.declared.Verdict.{Verdict}
 use Rattle.call.specs.declared.Verdict.the-variants.{SafeBy, UnsafeBy, Neither}
 
+-- the three lent stores
+abbrev pub stores : List ℕ → List ℕ → List ℕ → Stores
+stores ss ls path = record { states = ss; levels = ls; path = path }
+
 abbrev pub saidOf : Verdict → Said
 saidOf (SafeBy n) = says-safe
 saidOf (UnsafeBy n) = says-unsafe

@@ -1,8 +1,10 @@
 // What a call of the search returns, and the small total functions on the lent stores.
 ghost use mathlib.Core.Path.{_≡_};
-ghost use lib.ListN.{length, replicate};
+ghost use mathlib.Core.List.{_++_};
+ghost use Prim.Native.Nat.{_-_};
+ghost use lib.ListN.{length, replicate, take};
 ghost use Rattle.call.specs.Call.{wrongStores};
-ghost use Rattle.call.specs.Promise.{evidenceOf};
+ghost use Rattle.call.specs.Promise.{stores, evidenceOf};
 
 // The verdict, with the evidence's length: safe, unsafe, or neither.
 pub enum Verdict {
@@ -20,7 +22,7 @@ pub struct Outcome {
 
 // Refusal 4.
 pub fn wrong_stores(states: &[u64], levels: &[u32], path: &[u64]) -> bool
-    ensures { λ r. ⌜ r ≡ wrongStores (record { states = now (states .entry); levels = now (levels .entry); path = now (path .entry) }) ⌝ }
+    ensures { λ r. ⌜ r ≡ wrongStores (stores (now (states .entry)) (now (levels .entry)) (now (path .entry))) ⌝ }
 {
     if states.len() != levels.len() {
         return true;
@@ -49,6 +51,15 @@ pub fn clear_levels(levels: &mut [u32])
     while j < levels.len() {
         levels[j] = 0;
         j += 1;
+    }
+}
+
+// Everything behind the first `front` numbers becomes zero.
+pub fn clear_behind(store: &mut [u64], front: usize)
+    ensures { λ _. ⌜ now (store .exit) ≡ take front (now (store .entry)) ++ replicate (length (now (store .entry)) - front) 0 ⌝ }
+{
+    if front < store.len() {
+        clear(&mut store[front..]);
     }
 }
 

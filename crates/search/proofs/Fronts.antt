@@ -1,6 +1,5 @@
 -- What the fronts of the lent stores hold. Of `keep`: entry by entry, the states kept so far with those still to be kept are all that are to be
--- kept, since a state is written no further behind than where it was read. Of clearing: a tail that was lent and cleared
--- leaves the front as it was. Assumes nothing.
+-- kept, since a state is written no further behind than where it was read. Of clearing: a front and the zeros behind it. Assumes nothing.
 use Prim.Native.Nat.{ℕ, suc, _+_, _-_, _≤_, _<_}
 use mathlib.Core.List.{List, [], _∷_, _++_, append-nil}
 use mathlib.Core.Path.{_≡_, refl, sym, _∙_}
@@ -8,10 +7,9 @@ use native.Mathlib.Nat.{le-refl, sub-zero}
 use native.Mathlib.Numerals.{add-one}
 use native.Mathlib.Omega.{arith}
 use borrow.Author.Tests.{le-leb, lt-leb}
-use borrow.Rule.Slice.PartMut.{midOf, putMid, mid-len, post-is}
 use lib.Dec.{leb}
 use lib.ListN.{length, getD, set, take, replicate, length-set}
-use lib.Seq.{drop-length, length-take-le, take-suc-set, append-snoc, getD-set-other}
+use lib.Seq.{length-take-le, take-suc-set, append-snoc, getD-set-other}
 use Rattle.ic3.specs.Search.{states}
 use Rattle.call.specs.Call.{over}
 use Rattle.search.specs.Lent.{window, storeOf}
@@ -93,12 +91,6 @@ module _ (count i : ℕ) (before ls : List ℕ) where
         sym (append-nil (take kept ss)) ∙ (rw e at (f .front))
 
 -- ---- the fronts that are left
--- a tail that was lent, cleared and came back
-pub tail-cleared : (k : ℕ) (xs ys : List ℕ) → k ≤ length xs → ys ≡ replicate (length (midOf k (length xs - k) xs)) 0
-    → putMid k (length xs - k) xs ys ≡ take k xs ++ replicate (length xs - k) 0
-tail-cleared k xs ys h e =
-    rw (e, mid-len k (length xs) xs (le-refl (length xs)), post-is k (length xs) xs h, drop-length, append-nil)
-
 -- a front and the zeros behind it
 pub over-take : (k : ℕ) (xs : List ℕ) → k ≤ length xs → take k xs ++ replicate (length xs - k) 0 ≡ over (take k xs) xs
 unfolding over

@@ -1,18 +1,17 @@
 // The public call: the search of document 01 over lent stores.
 ghost use mathlib.Core.Path.{_≡_};
-ghost use mathlib.Core.Bool.{true, false};
-ghost use mathlib.Core.List.{List, [], _++_};
+ghost use mathlib.Core.List.{List, []};
 ghost use Prim.Native.Nat.{ℕ, suc, _+_, _-_, _≤_, _<_};
-ghost use lib.Dec.{eqb, leb};
-ghost use lib.ListN.{length, getD, replicate, take};
+ghost use lib.Dec.{leb};
+ghost use lib.ListN.{length, getD, take};
 ghost use Rattle.ic3.specs.Search.{put, states as statesOf, judge as judgeIn, found as foundIn, deeper as deeperIn, settled as settledIn, kept, next};
 ghost use Rattle.ic3.proofs.Store.{Tidy};
 ghost use Rattle.system.specs.System.{model};
 ghost use Rattle.question.specs.Question.{answered, badIn, stepIn};
 ghost use Rattle.call.specs.Call.{ended as endedBy, over};
 ghost use Rattle.search.specs.declared.Place.the-variants.{Look, Settle, Raise};
-ghost use Rattle.search.specs.Lent.{systemOf, Asks, Lends, Ready, Moves, Ends, Placed, Bounded, storeOf, part, duties, configOf, moveOf, roundFrom, verdictOf, BoundedEnd, FitsEnd, FirstAt, KeptAs, LeastGap};
-ghost use Rattle.call.specs.Promise.{lengthOf, resultOf, Promised};
+ghost use Rattle.search.specs.Lent.{systemOf, Asks, Lends, Ready, Moves, Ends, Placed, Bounded, storeOf, duties, configOf, moveOf, roundFrom, verdictOf, BoundedEnd, FitsEnd, FirstAt, KeptAs, LeastGap};
+ghost use Rattle.call.specs.Promise.{stores, lengthOf, resultOf, Promised};
 
 // What the awaited question is asked for: step 2 (or 1); step 3 for the duty of level k + 1; step 4 at level i for entry j.
 enum Place {
@@ -420,28 +419,20 @@ fn keep(states: &mut [u64], levels: &[u32], count: usize, i: u32) -> usize
     kept
 }
 
-// Everything behind the first `front` numbers becomes zero.
-fn clear_behind(store: &mut [u64], front: usize)
-    requires { ⌜ front ≤ length (now store) ⌝ }
-    ensures { λ _. ⌜ now (store .exit) ≡ take front (now (store .entry)) ++ replicate (length (now (store .entry)) - front) 0 ⌝ }
-{
-    call::clear(&mut store[front..]);
-}
-
 // The stores as they are left: the states start with `front` of their numbers and the path with `len` of its own, and everything else is zero.
 fn finish(states: &mut [u64], levels: &mut [u32], path: &mut [u64], front: usize, len: usize)
     requires { ⌜ (front ≤ length (now states)) × (len ≤ length (now path)) ⌝ }
     ensures { λ _. ⌜ (now (states .exit) ≡ over (take front (now (states .entry))) (now (states .entry))) × (now (levels .exit) ≡ over [] (now (levels .entry))) × (now (path .exit) ≡ over (take len (now (path .entry))) (now (path .entry))) ⌝ }
 {
-    clear_behind(states, front);
+    call::clear_behind(states, front);
     call::clear_levels(levels);
-    clear_behind(path, len);
+    call::clear_behind(path, len);
 }
 
 // The stores are left with the evidence alone.
 fn close(states: &mut [u64], levels: &mut [u32], path: &mut [u64], ended: Ended) -> call::Outcome
     requires { ⌜ BoundedEnd (ended .end) (length (now states)) × (length (now levels) ≡ length (now states)) × (length (now states) + 2 ≤ length (now path)) × FitsEnd (ended .end) (length (now path)) ⌝ }
-    ensures { λ r. ⌜ (resultOf r (record { states = now (states .exit); levels = now (levels .exit); path = now (path .exit) }) ≡ endedBy (record { states = now (states .entry); levels = now (levels .entry); path = now (path .entry) }) (ended .questions) (verdictOf (ended .end) (now (states .entry)) (now (levels .entry)) (now (path .entry)))) × (lengthOf (r .verdict) ≡ length (endedBy (record { states = now (states .entry); levels = now (levels .entry); path = now (path .entry) }) (ended .questions) (verdictOf (ended .end) (now (states .entry)) (now (levels .entry)) (now (path .entry))) .evidence)) ⌝ }
+    ensures { λ r. ⌜ (resultOf r (stores (now (states .exit)) (now (levels .exit)) (now (path .exit))) ≡ endedBy (stores (now (states .entry)) (now (levels .entry)) (now (path .entry))) (ended .questions) (verdictOf (ended .end) (now (states .entry)) (now (levels .entry)) (now (path .entry)))) × (lengthOf (r .verdict) ≡ length (endedBy (stores (now (states .entry)) (now (levels .entry)) (now (path .entry))) (ended .questions) (verdictOf (ended .end) (now (states .entry)) (now (levels .entry)) (now (path .entry))) .evidence)) ⌝ }
 {
     let questions = ended.questions;
     let end = ended.end;
@@ -493,7 +484,7 @@ pub fn search(
     path: &mut [u64],
     allowance: u32,
 ) -> call::Outcome
-    ensures { λ r. ⌜ Promised (systemOf n (now (start .entry)) (now (step .entry)) (now (bad .entry))) (record { states = now (states .entry); levels = now (levels .entry); path = now (path .entry) }) allowance r (record { states = now (states .exit); levels = now (levels .exit); path = now (path .exit) }) ⌝ }
+    ensures { λ r. ⌜ Promised (systemOf n (now (start .entry)) (now (step .entry)) (now (bad .entry))) (stores (now (states .entry)) (now (levels .entry)) (now (path .entry))) allowance r (stores (now (states .exit)) (now (levels .exit)) (now (path .exit))) ⌝ }
 {
     let refusal = system::refusal(n, start, step, bad);
     if refusal != 0 {

@@ -1,0 +1,47 @@
+-- `call::clear_behind` meets its contract: the tail that was lent comes back as zeros, with the front before it as it was. Assumes nothing.
+use native.Mathlib.Omega.{arith}
+use Rattle.call.proofs.Clearing.{tail-cleared, tail-none}
+use borrow.Author.Needs.{needs}
+use Rattle.call.proofs.clear_behind.Statement.{statement}
+use Rattle.call.proofs.clear_behind.Tie as tie
+
+mul-clear : tie.Need-mul-clear
+mul-clear c = search needs
+
+sub-clear : tie.Need-sub-clear
+sub-clear c = search needs
+
+part-clear-start : tie.Need-part-clear-start
+part-clear-start c = search needs
+
+part-clear-end : tie.Need-part-clear-end
+part-clear-end c = search needs
+
+clear-requires : tie.Need-clear-requires
+clear-requires c κs = search needs
+
+same-length : tie.Need-same-length
+same-length c = search needs
+
+returns : tie.Need-returns
+returns c =
+    let s = c .before .before .before .before .before .before in
+    tail-cleared (s .args .front) (s .args .store .now) _ (omega arith) (c .before .before .clear .ensures)
+
+returns-2 : tie.Need-returns-2
+returns-2 c =
+    let s = c .before .before in
+    tail-none (s .args .front) (s .args .store .now) (omega arith)
+
+pub clear-behind-spec : {M : Type 1} → statement M
+clear-behind-spec =
+    tie.close
+    (tie.spec
+    mul-clear
+    sub-clear
+    part-clear-start
+    part-clear-end
+    clear-requires
+    same-length
+    returns
+    returns-2)
