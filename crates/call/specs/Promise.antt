@@ -15,11 +15,13 @@ use Rattle.call.specs.declared.Verdict.the-variants.{SafeBy, UnsafeBy, N
 abbrev pub stores : List ℕ → List ℕ → List ℕ → Stores
 stores ss ls path = record { states = ss; levels = ls; path = path }
 
+-- what a verdict says
 abbrev pub saidOf : Verdict → Said
 saidOf (SafeBy n) = says-safe
 saidOf (UnsafeBy n) = says-unsafe
 saidOf Neither = says-nothing
 
+-- the length of the evidence
 abbrev pub lengthOf : Verdict → ℕ
 lengthOf (SafeBy n) = n
 lengthOf (UnsafeBy n) = n
@@ -50,4 +52,4 @@ pub record Promised (y : System) (lent : Stores) (allowance : ℕ) (o : Outcome)
   pub evidence-length : lengthOf (o .verdict) ≡ length (called y lent allowance .evidence)
   pub demand-2 : Right (model y) (o .verdict) (evidenceOf (o .verdict) (after .states) (after .path))
   pub demand-3 : (m : ℕ) → Number (Doomed (model y)) m → Within y lent allowance o m
-  pub one-m : (m : ℕ) × Number (Doomed (model y)) m
+  pub exists-m : (m : ℕ) × Number (Doomed (model y)) m

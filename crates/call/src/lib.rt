@@ -44,6 +44,7 @@ pub fn clear(store: &mut [u64])
     }
 }
 
+// Every level becomes zero.
 pub fn clear_levels(levels: &mut [u32])
     ensures { λ _. ⌜ now (levels .exit) ≡ replicate (length (now (levels .entry))) 0 ⌝ }
 {

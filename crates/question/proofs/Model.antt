@@ -13,7 +13,7 @@ use lib.ListN.{length}
 use Rattle.masks.specs.Bit.{somewhere}
 use Rattle.masks.proofs.Somewhere.{somewhere-suc}
 use Rattle.ic3.specs.Model.{least}
-use Rattle.ic3.specs.Search.{levelOf, R, look, settle, raise, wanted}
+use Rattle.ic3.specs.Search.{levelOf, R, Phase, look, wanted}
 use Rattle.ic3.proofs.Least.{least-same}
 use Rattle.ic3.proofs.Store.{Tidy}
 use Rattle.ic3.proofs.Tests.{test}
@@ -89,14 +89,9 @@ module _ (y : System) (states levels : List ℕ) (n≤32 : y .n ≤ 32)
   unfolding badIn wanted model
   bad-asked i = same-least i (model y .bad)
 
-  -- the question of step 3
-  pub step-asked : (N i t : ℕ) (ds : List ℕ)
-      → stepIn (y .n) (y .start) (y .step) states levels i t ≡ least (model y .size) (wanted (model y) N (stored states levels) (settle i t ds))
-  unfolding stepIn wanted model
-  step-asked N i t ds = same-least i (λ s. model y .step s t)
-
-  -- the question of step 4
-  pub raise-asked : (N i t : ℕ) (todo : List ℕ)
-      → stepIn (y .n) (y .start) (y .step) states levels i t ≡ least (model y .size) (wanted (model y) N (stored states levels) (raise i t todo))
-  unfolding stepIn wanted model
-  raise-asked N i t todo = same-least i (λ s. model y .step s t)
+  -- the question of steps 3 and 4, in each phase that asks for a state of R(i) which steps to t
+  pub step-asked : (N i t : ℕ) (p : Phase)
+      → wanted (model y) N (stored states levels) p ≡ (λ s. R (model y) (levelOf (stored states levels)) i s && model y .step s t)
+      → stepIn (y .n) (y .start) (y .step) states levels i t ≡ least (model y .size) (wanted (model y) N (stored states levels) p)
+  unfolding stepIn model
+  step-asked N i t p e = rw e (same-least i (λ s. model y .step s t))

@@ -1,6 +1,7 @@
 -- The questions over the fronts of the two stores are those that the search asks of its model: the front of each, entry by entry, is the store.
 -- Assumes nothing.
 use Prim.Native.Nat.{ℕ, zero, suc, _≤_}
+use mathlib.Core.Bool.{_&&_}
 use mathlib.Core.List.{List, [], _∷_}
 use mathlib.Core.Option.{Option}
 use mathlib.Core.Path.{_≡_, refl, sym, ap, _∙_}
@@ -8,11 +9,11 @@ use native.Mathlib.Omega.{arith}
 use lib.ListN.{length, take, getD}
 use lib.Seq.{length-take-le}
 use Rattle.ic3.proofs.Store.{Tidy}
-use Rattle.ic3.specs.Search.{look, settle, raise, at, react, next}
+use Rattle.ic3.specs.Search.{levelOf, R, Phase, look, wanted, at, react, next}
 use Rattle.system.specs.System.{System, model}
 use Rattle.question.specs.Question.{badIn, stepIn}
 use Rattle.question.specs.Stored.{stored}
-use Rattle.question.proofs.Model.{bad-asked, step-asked, raise-asked}
+use Rattle.question.proofs.Model.{bad-asked, step-asked}
 use Rattle.search.specs.Lent.{window, storeOf, Asks}
 
 -- a window from the second entry on is one of the tails
@@ -44,18 +45,13 @@ module _ (y : System) (count : ℕ) (ss ls : List ℕ) (a : Asks (y .n) count ss
       ap (react room N (storeOf count ss ls) look)
       (sym (e ∙ (rw (stored-fronts count ss ls (a .states) (a .levels)) at (bad-asked y (take count ss) (take count ls) (a .small) same fronts-tidy N))))
 
-  -- an answer of step 3
-  pub settle-next : (room N k s : ℕ) (ds : List ℕ) (o : Option ℕ) → o ≡ stepIn (y .n) (y .start) (y .step) (take count ss) (take count ls) k s
-      → next (model y) room (at N (storeOf count ss ls) (settle k s ds)) ≡ react room N (storeOf count ss ls) (settle k s ds) o
+  -- an answer of steps 3 and 4, in each phase that asks for a state of R(i) which steps to s
+  pub step-next : (room N i s : ℕ) (p : Phase) (o : Option ℕ)
+      → wanted (model y) N (storeOf count ss ls) p ≡ (λ t. R (model y) (levelOf (storeOf count ss ls)) i t && model y .step t s)
+      → o ≡ stepIn (y .n) (y .start) (y .step) (take count ss) (take count ls) i s
+      → next (model y) room (at N (storeOf count ss ls) p) ≡ react room N (storeOf count ss ls) p o
   unfolding next
-  settle-next room N k s ds o e =
-      ap (react room N (storeOf count ss ls) (settle k s ds))
-      (sym (e ∙ (rw (stored-fronts count ss ls (a .states) (a .levels)) at (step-asked y (take count ss) (take count ls) (a .small) same fronts-tidy N k s ds))))
-
-  -- an answer of step 4
-  pub raise-next : (room N i s : ℕ) (todo : List ℕ) (o : Option ℕ) → o ≡ stepIn (y .n) (y .start) (y .step) (take count ss) (take count ls) i s
-      → next (model y) room (at N (storeOf count ss ls) (raise i s todo)) ≡ react room N (storeOf count ss ls) (raise i s todo) o
-  unfolding next
-  raise-next room N i s todo o e =
-      ap (react room N (storeOf count ss ls) (raise i s todo))
-      (sym (e ∙ (rw (stored-fronts count ss ls (a .states) (a .levels)) at (raise-asked y (take count ss) (take count ls) (a .small) same fronts-tidy N i s todo))))
+  step-next room N i s p o h e =
+      let f = stored-fronts count ss ls (a .states) (a .levels) in
+      ap (react room N (storeOf count ss ls) p)
+      (sym (e ∙ (rw f at (step-asked y (take count ss) (take count ls) (a .small) same fronts-tidy N i s p (rw f h)))))

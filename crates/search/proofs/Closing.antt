@@ -8,12 +8,13 @@ use lib.Dec.{leb}
 use lib.ListN.{length, getD, take, drop}
 use lib.Seq.{drop-cons, length-take-le, take-at}
 use Rattle.ic3.specs.Search.{states}
-use Rattle.call.specs.Call.{Stores, over, leaves, ended}
+use Rattle.call.specs.Call.{Stores, says-nothing, result, over, leaves, ended}
 use Rattle.search.specs.Lent.{storeOf, part, verdictOf}
 use Rattle.call.specs.Promise.{lengthOf, resultOf}
 use Rattle.search.specs.declared.End.{End}
-use Rattle.search.specs.declared.End.the-variants.{Safe, Unsafe, NoRoom, Spent}
+use Rattle.search.specs.declared.End.the-variants.{Safe, Unsafe}
 use Rattle.call.specs.declared.Outcome.{Outcome}
+use Rattle.call.specs.declared.Verdict.{Verdict}
 use Rattle.call.specs.declared.Verdict.the-variants.{SafeBy, UnsafeBy, Neither}
 
 -- ---- parts and fronts
@@ -50,33 +51,51 @@ Closes s e asked o after =
     (resultOf o after ≡ ended s asked (verdictOf e (s .states) (s .levels) (s .path)))
     × (lengthOf (o .verdict) ≡ length (ended s asked (verdictOf e (s .states) (s .levels) (s .path)) .evidence))
 
-module _ (s : Stores) (e : End) (asked : ℕ) (ss ls path : List ℕ) (l : ls ≡ over [] (s .levels)) where
+-- with `mid` for the states, keeping `front` of them and `len` of the path closes the end
+pub record Closable (s : Stores) (e : End) (asked : ℕ) (mid : List ℕ) (front len number : ℕ) (verdict : Verdict) : Type 0 where
+  pub same : length mid ≡ length (s .states)
+  pub front-within : front ≤ length mid
+  pub len-within : len ≤ length (s .path)
+  pub closes : (ss ls path : List ℕ) → ss ≡ over (take front mid) mid → ls ≡ over [] (s .levels) → path ≡ over (take len (s .path)) (s .path)
+      → Closes s e asked (record { number = number; verdict = verdict; questions = asked }) (record { states = ss; levels = ls; path = path })
+
+module _ (s : Stores) (e : End) (asked : ℕ) where
   -- safe: the states kept stand at the front of a store as long as before
   pub closes-safe : (i count front : ℕ) (mid : List ℕ) → e ≡ Safe i count → take front mid ≡ states (leb i) (storeOf count (s .states) (s .levels))
-      → front ≤ length mid → length mid ≡ length (s .states) → ss ≡ over (take front mid) mid → path ≡ over [] (s .path)
-      → Closes s e asked (record { number = 0; verdict = SafeBy front; questions = asked }) (record { states = ss; levels = ls; path = path })
+      → front ≤ length mid → length mid ≡ length (s .states) → Closable s e asked mid front 0 0 (SafeBy front)
   unfolding ended leaves
-  closes-safe i count front mid q k h m a p =
+  closes-safe i count front mid q k h m =
       let n = length-take-le front mid h in
-      rw q
-      (rw (sym k) (rw (a, l, p, over-front front (take front mid) mid n, over-same (take front mid) mid (s .states) m), sym n))
+      record {
+        same = m;
+        front-within = h;
+        len-within = omega arith;
+        closes = λ ss ls path a l p. rw q
+            (rw (sym k) (rw (a, l, p, over-front front (take front mid) mid n, over-same (take front mid) mid (s .states) m), sym n));
+      }
 
   -- unsafe: the path stands at the front of its store
-  pub closes-unsafe : (k : ℕ) → e ≡ Unsafe k → k ≤ length (s .path) → ss ≡ over [] (s .states) → path ≡ over (take k (s .path)) (s .path)
-      → Closes s e asked (record { number = 0; verdict = UnsafeBy k; questions = asked }) (record { states = ss; levels = ls; path = path })
+  pub closes-unsafe : (k : ℕ) → e ≡ Unsafe k → k ≤ length (s .path) → Closable s e asked (s .states) 0 k 0 (UnsafeBy k)
   unfolding ended leaves
-  closes-unsafe k q h a p =
+  closes-unsafe k q h =
       let n = length-take-le k (s .path) h in
-      rw q
-      (rw (part-take k (s .path) h) (rw (a, l, p, over-front k (take k (s .path)) (s .path) n), sym n))
+      record {
+        same = refl;
+        front-within = omega arith;
+        len-within = h;
+        closes = λ ss ls path a l p. rw q
+            (rw (part-take k (s .path) h) (rw (a, l, p, over-front k (take k (s .path)) (s .path) n), sym n));
+      }
 
-  module _ (a : ss ≡ over [] (s .states)) (p : path ≡ over [] (s .path)) where
-    -- no room: nothing is left
-    pub closes-full : e ≡ NoRoom → Closes s e asked (record { number = 6; verdict = Neither; questions = asked }) (record { states = ss; levels = ls; path = path })
-    unfolding ended leaves
-    closes-full q = rw q (rw (a, l, p), refl)
-
-    -- the allowance is used up: nothing is left
-    pub closes-spent : e ≡ Spent → Closes s e asked (record { number = 5; verdict = Neither; questions = asked }) (record { states = ss; levels = ls; path = path })
-    unfolding ended leaves
-    closes-spent q = rw q (rw (a, l, p), refl)
+  -- given up, with a number of its own: nothing is left
+  pub closes-neither : (t : End) (number : ℕ) → e ≡ t
+      → ended s asked (verdictOf t (s .states) (s .levels) (s .path)) ≡ result number says-nothing asked [] (leaves s [] [])
+      → Closable s e asked (s .states) 0 0 number Neither
+  unfolding leaves
+  closes-neither t number q h =
+      record {
+        same = refl;
+        front-within = omega arith;
+        len-within = omega arith;
+        closes = λ ss ls path a l p. rw q (rw h (rw (a, l, p), refl));
+      }

@@ -106,7 +106,7 @@ module _ (y : System) (lent : Stores) (allowance : ℕ) where
         evidence-length = rw e;
         demand-2 = tt;
         demand-3 = λ m D. record { few = omega arith; answers = λ z f g. absurd (omega arith) };
-        one-m = demand-3 (model y) .exists;
+        exists-m = demand-3 (model y) .exists;
       })
 
   -- refusals 1 to 3 come from the system alone
@@ -161,7 +161,7 @@ module _ (y : System) (lent : Stores) (allowance : ℕ) where
                 few = rw (ap (λ r. r .questions) (c .0) ∙ (ended-questions s asked v ∙ w .questions)) (b .few room allowance);
                 answers = λ z f g. ap (λ r. r .number) (c .0) ∙ ended-answers s asked v (rw (w .verdict) (b .answers room allowance f g));
               };
-          one-m = demand-3 (model y) .exists;
+          exists-m = demand-3 (model y) .exists;
         }
 
 -- ---- the promise leaves no choice

@@ -10,7 +10,7 @@ use native.Mathlib.Numerals.{add-one}
 use borrow.Author.Tests.{eqb-true, eqb-false}
 use lib.Dec.{eqb}
 use lib.ListN.{getD, set, take}
-use Rattle.ic3.specs.Search.{levelOf, states, raise, at, put, react, next}
+use Rattle.ic3.specs.Search.{levelOf, states, raise, wanted, at, put, react, next}
 use Rattle.ic3.proofs.Tests.{test}
 use Rattle.ic3.proofs.Store.{Tidy, put-tidy}
 use Rattle.system.specs.System.{System, model}
@@ -19,7 +19,7 @@ use Rattle.search.specs.Lent.{window, storeOf, roundFrom, Absent, Asks}
 use Rattle.search.proofs.Windows.{window-apart}
 use Rattle.search.proofs.Keeping.{put-found}
 use Rattle.search.proofs.Rounds.{level-entry, round-below}
-use Rattle.search.proofs.Asked.{raise-next}
+use Rattle.search.proofs.Asked.{step-next}
 
 -- no earlier entry of a tidy window has the state of entry j: behind the earlier one its state has no level
 entry-first : (count j : ℕ) (ss ls : List ℕ) (left m : ℕ) → left + m ≡ count → j < count → Tidy (window left m ss ls)
@@ -56,18 +56,18 @@ module _ (y : System) (N count i j : ℕ) (ss ls : List ℕ) (a : Asks (y .n) co
   pub raise-not : (room t : ℕ) → some t ≡ stepIn (y .n) (y .start) (y .step) (take count ss) (take count ls) i (getD ss j 0)
       → roundFrom N count i (j + 1) ss ls
       ≡ next (model y) room (at N (storeOf count ss ls) (raise i (getD ss j 0) (states (eqb i) (window (count - suc j) (suc j) ss ls))))
-  unfolding react
+  unfolding react wanted
   raise-not room t q =
       (rw (add-one j) (round-below N count ss ls i (suc j) l))
-      ∙ sym (raise-next y count ss ls a room N i (getD ss j 0) (states (eqb i) (window (count - suc j) (suc j) ss ls)) (some t) q)
+      ∙ sym (step-next y count ss ls a room N i (getD ss j 0) (raise i (getD ss j 0) _) (some t) refl q)
 
   -- none was found: on behind the entry, with the entry's level raised
   pub raise-up : (room : ℕ) → none ≡ stepIn (y .n) (y .start) (y .step) (take count ss) (take count ls) i (getD ss j 0)
       → roundFrom N count i (j + 1) ss (set ls j (i + 1))
       ≡ next (model y) room (at N (storeOf count ss ls) (raise i (getD ss j 0) (states (eqb i) (window (count - suc j) (suc j) ss ls))))
-  unfolding react
+  unfolding react wanted
   raise-up room q =
       (rw (add-one j)
       (round-below N count ss (set ls j (i + 1)) i (suc j) l
       ∙ rw (raised-store, window-apart (count - suc j) (suc j) j ss ls (i + 1) (omega arith)) refl))
-      ∙ sym (raise-next y count ss ls a room N i (getD ss j 0) (states (eqb i) (window (count - suc j) (suc j) ss ls)) none q)
+      ∙ sym (step-next y count ss ls a room N i (getD ss j 0) (raise i (getD ss j 0) _) none refl q)

@@ -3,15 +3,15 @@
 use Prim.Native.Nat.{ℕ, suc, _+_, _-_}
 use mathlib.Core.List.{List}
 use mathlib.Core.Option.{none, some}
-use mathlib.Core.Path.{_≡_, sym, ap, _∙_}
+use mathlib.Core.Path.{_≡_, refl, sym, ap, _∙_}
 use native.Mathlib.Omega.{arith}
 use native.Mathlib.Numerals.{add-one}
 use lib.ListN.{take}
-use Rattle.ic3.specs.Search.{look, settle, at, Move, put, round, found, deeper, kept, react, next}
+use Rattle.ic3.specs.Search.{look, settle, wanted, at, Move, put, round, found, deeper, kept, react, next}
 use Rattle.system.specs.System.{System, model}
 use Rattle.question.specs.Question.{badIn, stepIn}
 use Rattle.search.specs.Lent.{storeOf, roundFrom, Asks}
-use Rattle.search.proofs.Asked.{look-next, settle-next}
+use Rattle.search.proofs.Asked.{look-next, step-next}
 use Rattle.search.proofs.Rounds.{round-start}
 
 module _ (y : System) (count : ℕ) (ss ls : List ℕ) (a : Asks (y .n) count ss ls) where
@@ -34,11 +34,11 @@ module _ (y : System) (count : ℕ) (ss ls : List ℕ) (a : Asks (y .n) count ss
   -- a state steps to that of the duty
   pub settle-some : (room N k s t : ℕ) (ds : List ℕ) (m : Move) → some t ≡ stepIn (y .n) (y .start) (y .step) (take count ss) (take count ls) k s
       → m ≡ deeper N (storeOf count ss ls) k s ds t → m ≡ next (model y) room (at N (storeOf count ss ls) (settle k s ds))
-  unfolding react
-  settle-some room N k s t ds m e g = g ∙ sym (settle-next y count ss ls a room N k s ds (some t) e)
+  unfolding react wanted
+  settle-some room N k s t ds m e g = g ∙ sym (step-next y count ss ls a room N k s (settle k s ds) (some t) refl e)
 
   -- none does: the state of the duty gets its level
   pub settle-none : (room N k s : ℕ) (ds : List ℕ) (m : Move) → none ≡ stepIn (y .n) (y .start) (y .step) (take count ss) (take count ls) k s
       → m ≡ kept room N (put (storeOf count ss ls) s (suc k)) k ds → m ≡ next (model y) room (at N (storeOf count ss ls) (settle k s ds))
-  unfolding react
-  settle-none room N k s ds m e g = g ∙ sym (settle-next y count ss ls a room N k s ds none e)
+  unfolding react wanted
+  settle-none room N k s ds m e g = g ∙ sym (step-next y count ss ls a room N k s (settle k s ds) none refl e)

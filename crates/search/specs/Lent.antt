@@ -115,9 +115,6 @@ pub record LeastGap (ls : List ℕ) (count N r : ℕ) : Type 0 where
   pub taken : (l : ℕ) → 1 ≤ l → l < r → (Absent ls 0 count l → ⊥)
   pub free : r < N → Absent ls 0 count r
 
-abbrev pub systemOf : ℕ → List ℕ → List ℕ → List ℕ → System
-systemOf n start step bad = record { n = n; start = start; step = step; bad = bad }
-
 -- a question's store: tidy, and within the lent ones; and n is one that is not refused
 pub record Asks (n count : ℕ) (ss ls : List ℕ) : Type 0 where
   pub small : n ≤ 32

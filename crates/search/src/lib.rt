@@ -6,11 +6,11 @@ ghost use lib.Dec.{leb};
 ghost use lib.ListN.{length, getD, take};
 ghost use Rattle.ic3.specs.Search.{put, states as statesOf, judge as judgeIn, found as foundIn, deeper as deeperIn, settled as settledIn, kept, next};
 ghost use Rattle.ic3.proofs.Store.{Tidy};
-ghost use Rattle.system.specs.System.{model};
+ghost use Rattle.system.specs.System.{systemOf, model};
 ghost use Rattle.question.specs.Question.{answered, badIn, stepIn};
 ghost use Rattle.call.specs.Call.{ended as endedBy, over};
 ghost use Rattle.search.specs.declared.Place.the-variants.{Look, Settle, Raise};
-ghost use Rattle.search.specs.Lent.{systemOf, Asks, Lends, Ready, Moves, Ends, Placed, Bounded, storeOf, duties, configOf, moveOf, roundFrom, verdictOf, BoundedEnd, FitsEnd, FirstAt, KeptAs, LeastGap};
+ghost use Rattle.search.specs.Lent.{Asks, Lends, Ready, Moves, Ends, Placed, Bounded, storeOf, duties, configOf, moveOf, roundFrom, verdictOf, BoundedEnd, FitsEnd, FirstAt, KeptAs, LeastGap};
 ghost use Rattle.call.specs.Promise.{stores, lengthOf, resultOf, Promised};
 
 // What the awaited question is asked for: step 2 (or 1); step 3 for the duty of level k + 1; step 4 at level i for entry j.
@@ -235,7 +235,7 @@ fn round(levels: &[u32], top: u32, count: usize, i: u32, j: usize) -> Turn
     judge(levels, top, count)
 }
 
-// The questions, over the stored states.
+// The question for a bad state of R(i), over the stored states.
 fn bad_state(
     n: u32,
     start: &[u64],
@@ -251,6 +251,7 @@ fn bad_state(
     question::bad_in(n, start, bad, &states[..count], &levels[..count], i)
 }
 
+// The question for a state of R(i) that steps to s, over the stored states.
 fn step_state(
     n: u32,
     start: &[u64],
@@ -329,12 +330,12 @@ fn raise(
     let s = states[j];
     let answer = step_state(n, start, step, states, levels, count, i, s);
     match answer {
-        question::Answer::State(_) => round(levels, top, count, i, j + 1),
+        question::Answer::State(_) => {}
         question::Answer::Nothing => {
             levels[j] = i + 1;
-            round(levels, top, count, i, j + 1)
         }
     }
+    round(levels, top, count, i, j + 1)
 }
 
 // One question, asked and taken in.
@@ -436,40 +437,31 @@ fn close(states: &mut [u64], levels: &mut [u32], path: &mut [u64], ended: Ended)
 {
     let questions = ended.questions;
     let end = ended.end;
+    let mut front = 0;
+    let mut len = 0;
+    let mut number = 0;
+    let mut verdict = call::Verdict::Neither;
     match end {
         End::Safe(i, count) => {
-            let front = keep(states, levels, count, i);
-            finish(states, levels, path, front, 0);
-            call::Outcome {
-                number: 0,
-                verdict: call::Verdict::SafeBy(front),
-                questions,
-            }
+            front = keep(states, levels, count, i);
+            verdict = call::Verdict::SafeBy(front);
         }
-        End::Unsafe(len) => {
-            finish(states, levels, path, 0, len);
-            call::Outcome {
-                number: 0,
-                verdict: call::Verdict::UnsafeBy(len),
-                questions,
-            }
+        End::Unsafe(k) => {
+            len = k;
+            verdict = call::Verdict::UnsafeBy(k);
         }
         End::NoRoom => {
-            finish(states, levels, path, 0, 0);
-            call::Outcome {
-                number: 6,
-                verdict: call::Verdict::Neither,
-                questions,
-            }
+            number = 6;
         }
         End::Spent => {
-            finish(states, levels, path, 0, 0);
-            call::Outcome {
-                number: 5,
-                verdict: call::Verdict::Neither,
-                questions,
-            }
+            number = 5;
         }
+    }
+    finish(states, levels, path, front, len);
+    call::Outcome {
+        number,
+        verdict,
+        questions,
     }
 }
 

@@ -101,16 +101,9 @@ fn write_verdict(verdict: call::Verdict) {
     }
 }
 
-// The line of a call.
-fn write_line<'a>(
-    name: &[u8],
-    outcome: call::Outcome,
-    states: &'a [u64],
-    levels: &[u32],
-    path: &'a [u64],
-) {
+// What the line of a call has behind the name.
+fn write_line<'a>(outcome: call::Outcome, states: &'a [u64], levels: &[u32], path: &'a [u64]) {
     let verdict = outcome.verdict;
-    write(name);
     write(b": ");
     io::print_decimal(1, wide(outcome.number));
     write_verdict(verdict);
@@ -123,9 +116,8 @@ fn write_line<'a>(
     write(b"\n");
 }
 
-// One call and its line.
+// One call and its line, behind the name.
 fn run(
-    name: &[u8],
     n: u32,
     start: &[u64],
     step: &[u64],
@@ -136,7 +128,7 @@ fn run(
     allowance: u32,
 ) {
     let outcome = search::search(n, start, step, bad, states, levels, path, allowance);
-    write_line(name, outcome, states, levels, path);
+    write_line(outcome, states, levels, path);
 }
 
 // A call with stores of these lengths.
@@ -156,8 +148,8 @@ fn lend(
     let mut states = [FILLED; 4];
     let mut levels = [FILLED as u32; 4];
     let mut path = [FILLED; 6];
+    write(name);
     run(
-        name,
         n,
         start,
         step,
@@ -170,68 +162,8 @@ fn lend(
 }
 
 // A call with room for four states.
-fn lend_four(name: &[u8], n: u32, start: &[u64], step: &[u64], bad: &[u64], allowance: u32) {
-    lend(name, n, start, step, bad, 4, 4, 6, allowance);
-}
-
-fn sequencers() {
-    let start = ZERO;
-    let ring = RING;
-    let late = LATE;
-    let chain = CHAIN;
-    let bad = THREE;
-    let never = [0u64; 2];
-    let none = &never[..0];
-    lend_four(b"Ring", 2, &start, &ring, &bad, ENOUGH);
-    lend_four(b"Late", 2, &start, &late, &bad, ENOUGH);
-    lend(b"Late, room 2", 2, &start, &late, &bad, 2, 2, 4, ENOUGH);
-    lend(b"Late, room 1", 2, &start, &late, &bad, 1, 1, 3, ENOUGH);
-    lend_four(b"Late, allowance 16", 2, &start, &late, &bad, 16);
-    lend_four(b"Late, allowance 15", 2, &start, &late, &bad, 15);
-    lend_four(b"Late, allowance 0", 2, &start, &late, &bad, 0);
-    lend_four(b"Chain", 2, &start, &chain, &bad, ENOUGH);
-    lend_four(b"Ring, start and bad empty", 2, none, &ring, none, ENOUGH);
-    lend_four(b"Ring, bad false", 2, &start, &ring, &never, ENOUGH);
-}
-
-// Each state steps to each: from the least with the highest bit 0 to the least with it 1.
-fn sizes() {
-    let low = [0u64, 1];
-    let high = [1u64, 0];
-    let low_31 = [0u64, 0x8000_0000];
-    let high_31 = [0x8000_0000u64, 0];
-    let empty = [0u64; 2];
-    let none = &empty[..0];
-    lend_four(b"n = 1", 1, &low, none, &high, ENOUGH);
-    lend_four(b"n = 32", 32, &low_31, none, &high_31, ENOUGH);
-    lend_four(b"n = 0", 0, none, none, none, ENOUGH);
-    lend_four(b"n = 33", 33, &low, none, &high, ENOUGH);
-}
-
-// With 4096 clauses that are all false there is no step.
-fn clauses() {
-    let start = ZERO;
-    let ring = RING;
-    let bad = THREE;
-    let many = [0u64; 8194];
-    lend_four(b"odd start", 2, &start[..3], &ring, &bad, ENOUGH);
-    lend_four(b"odd step", 2, &start, &ring[..11], &bad, ENOUGH);
-    lend_four(b"odd bad", 2, &start, &ring, &bad[..1], ENOUGH);
-    lend_four(b"4096 step clauses", 2, &start, &many[..8192], &bad, ENOUGH);
-    lend_four(b"4097 step clauses", 2, &start, &many, &bad, ENOUGH);
-}
-
-fn bits() {
-    let start = ZERO;
-    let ring = RING;
-    let bad = THREE;
-    let two = [0u64, 4];
-    let later = [0x4_0000_0000u64, 0];
-    let after = [0x1_0000_0000u64, 0];
-    lend_four(b"bit 2 in start", 2, &two, &ring, &bad, ENOUGH);
-    lend_four(b"bit 2 in step", 2, &start, &two, &bad, ENOUGH);
-    lend_four(b"later bit 2 in step", 2, &start, &later, &bad, ENOUGH);
-    lend_four(b"later bit 0 in bad", 2, &start, &ring, &after, ENOUGH);
+fn lend_four(name: &[u8], n: u32, start: &[u64], step: &[u64], bad: &[u64]) {
+    lend(name, n, start, step, bad, 4, 4, 6, ENOUGH);
 }
 
 // Ring with stores of these lengths.
@@ -244,11 +176,120 @@ fn lend_ring(name: &[u8], room: usize, others: usize, most: usize)
     lend(name, 2, &start, &step, &bad, room, others, most, ENOUGH);
 }
 
-// A path store of two more than the room is enough, one more is not.
-fn stores() {
+// Late with this room and allowance.
+fn lend_late(name: &[u8], room: usize, allowance: u32)
+    requires { ⌜ room ≤ 4 ⌝ }
+{
+    let start = ZERO;
+    let step = LATE;
+    let bad = THREE;
+    lend(
+        name,
+        2,
+        &start,
+        &step,
+        &bad,
+        room,
+        room,
+        room + 2,
+        allowance,
+    );
+}
+
+// Ring with another start list.
+fn lend_start(name: &[u8], start: &[u64]) {
+    let step = RING;
+    let bad = THREE;
+    lend_four(name, 2, start, &step, &bad);
+}
+
+// Ring with another step list.
+fn lend_step(name: &[u8], step: &[u64]) {
+    let start = ZERO;
+    let bad = THREE;
+    lend_four(name, 2, &start, step, &bad);
+}
+
+// Ring with another bad list.
+fn lend_bad(name: &[u8], bad: &[u64]) {
+    let start = ZERO;
+    let step = RING;
+    lend_four(name, 2, &start, &step, bad);
+}
+
+fn lend_all_bad(name: &[u8]) {
+    let step = RING;
+    let none = [0u64; 0];
+    lend_four(name, 2, &none, &step, &none);
+}
+
+fn sequencers() {
+    lend_ring(b"Ring", 4, 4, 6);
+    lend_late(b"Late", 4, ENOUGH);
+    lend_late(b"Late, room 2", 2, ENOUGH);
+    lend_late(b"Late, room 1", 1, ENOUGH);
+    lend_late(b"Late, allowance 16", 4, 16);
+    lend_late(b"Late, allowance 15", 4, 15);
+    lend_late(b"Late, allowance 0", 4, 0);
+}
+
+fn other_lists() {
+    let chain = CHAIN;
+    let never = [0u64; 2];
+    lend_step(b"Chain", &chain);
+    lend_all_bad(b"Ring, start and bad empty");
+    lend_bad(b"Ring, bad false", &never);
+}
+
+// Each state steps to each: from the least with this bit 0 to the least with it 1. With no bit, start and bad are a false clause each.
+fn lend_free(name: &[u8], n: u32, bit: u64) {
+    let start = [0u64, bit];
+    let step = [0u64; 0];
+    let bad = [bit, 0u64];
+    lend_four(name, n, &start, &step, &bad);
+}
+
+fn sizes() {
+    lend_free(b"n = 1", 1, 1);
+    lend_free(b"n = 32", 32, 0x8000_0000);
+    lend_free(b"n = 0", 0, 0);
+    lend_free(b"n = 33", 33, 1);
+}
+
+fn odd_counts() {
+    let start = ZERO;
+    let step = RING;
+    let bad = THREE;
+    lend_start(b"odd start", &start[..3]);
+    lend_step(b"odd step", &step[..11]);
+    lend_bad(b"odd bad", &bad[..1]);
+}
+
+// With 4096 clauses that are all false there is no step.
+fn many_clauses() {
+    let many = [0u64; 8194];
+    lend_step(b"4096 step clauses", &many[..8192]);
+    lend_step(b"4097 step clauses", &many);
+}
+
+fn bits() {
+    let two = [0u64, 4];
+    let later = [0x4_0000_0000u64, 0];
+    let after = [0x1_0000_0000u64, 0];
+    lend_start(b"bit 2 in start", &two);
+    lend_step(b"bit 2 in step", &two);
+    lend_step(b"later bit 2 in step", &later);
+    lend_bad(b"later bit 0 in bad", &after);
+}
+
+fn unequal_stores() {
     lend_ring(b"Ring, stores 4 4 5", 4, 4, 5);
     lend_ring(b"Ring, stores 4 3 6", 4, 3, 6);
     lend_ring(b"Ring, stores 3 4 6", 3, 4, 6);
+}
+
+// A path store of two more than the room is enough, one more is not.
+fn small_stores() {
     lend_ring(b"Ring, stores 1 1 6", 1, 1, 6);
     lend_ring(b"Ring, stores 1 1 3", 1, 1, 3);
     lend_ring(b"Ring, stores 1 1 2", 1, 1, 2);
@@ -256,31 +297,29 @@ fn stores() {
     lend_ring(b"Ring, stores 0 0 1", 0, 0, 1);
 }
 
+// Ring with this start list, a bad list that uses bit 2, and a path store that is too short.
+fn lend_wrong(name: &[u8], n: u32, start: &[u64]) {
+    let step = RING;
+    let bad = [4u64, 0];
+    lend(name, n, start, &step, &bad, 4, 4, 5, ENOUGH);
+}
+
 // Several refusals apply: the least is given.
 fn order() {
     let start = ZERO;
-    let ring = RING;
-    let high = [4u64, 0];
-    lend(
-        b"1, 2, 3 and 4",
-        0,
-        &start[..1],
-        &ring,
-        &high,
-        4,
-        4,
-        5,
-        ENOUGH,
-    );
-    lend(b"2, 3 and 4", 2, &start[..1], &ring, &high, 4, 4, 5, ENOUGH);
-    lend(b"3 and 4", 2, &start, &ring, &high, 4, 4, 5, ENOUGH);
+    lend_wrong(b"1, 2, 3 and 4", 0, &start[..1]);
+    lend_wrong(b"2, 3 and 4", 2, &start[..1]);
+    lend_wrong(b"3 and 4", 2, &start);
 }
 
 fn main() {
     sequencers();
+    other_lists();
     sizes();
-    clauses();
+    odd_counts();
+    many_clauses();
     bits();
-    stores();
+    unequal_stores();
+    small_stores();
     order();
 }

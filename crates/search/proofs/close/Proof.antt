@@ -1,10 +1,14 @@
--- `search::close` meets its contract: the evidence is brought to the front of its store by `keep`, or stands there, and `finish` clears the rest.
--- Assumes nothing.
+-- `search::close` meets its contract: each end says what is to stay of the states, which `keep` brings to the front after safe, and of the path; and
+-- `finish` clears the rest. Assumes nothing.
 use Prim.Native.Nat.{_≤_}
+use mathlib.Core.Logic.{⊎-elim}
+use mathlib.Core.Path.{refl}
 use native.Mathlib.Omega.{arith}
 use borrow.Author.Needs.{needs}
 use lib.ListN.{length}
-use Rattle.search.proofs.Closing.{closes-safe, closes-unsafe, closes-full, closes-spent}
+use Rattle.call.specs.Call.{ended}
+use Rattle.call.specs.Promise.{stores}
+use Rattle.search.proofs.Closing.{Closable, closes-safe, closes-unsafe, closes-neither}
 use Rattle.search.proofs.close.Statement.{statement}
 use Rattle.search.proofs.close.Tie as tie
 
@@ -17,36 +21,45 @@ keep-requires c κs =
     let b = rw (c .before .before .before .end .given .1) at (s .pre .0) in
     (b, rw (s .pre .1) b)
 
-finish-requires : tie.Need-finish-requires
-finish-requires c κs =
-    let s = c .before .before .before .before .before .before .before .before .before .before .before .before .before .before in
-    let k = c .before .before .before .before .before .keep .ensures in
-    let e = c .before .before .before .before .before .before .before .before .before .end .given in
-    let b : e .0 .1 .0 ≤ length (s .args .states .now) = rw (e .1) at (s .pre .0) in
-    (omega (arith, k .1, k .2, b), omega arith)
-
 enum-known-end-2 : tie.Need-enum-known-end-2
 enum-known-end-2 c = search needs
-
-finish-requires-2 : tie.Need-finish-requires-2
-finish-requires-2 c κs =
-    let s = c .before .before .before .before .before .before .before .before .before in
-    (omega arith, rw (c .before .before .before .before .end2 .given .1) at (s .pre .3))
 
 enum-told : tie.Need-enum-told
 enum-told c = search needs
 
-finish-requires-3 : tie.Need-finish-requires-3
-finish-requires-3 c κs = search needs
-
 enum-told-2 : tie.Need-enum-told-2
 enum-told-2 c = search needs
 
-finish-requires-4 : tie.Need-finish-requires-4
-finish-requires-4 c κs = search needs
+-- what the end leaves to be finished
+closable : (m : tie.At-match-came)
+    → (let a = m .before .before .before .before .args in
+    Closable (stores (a .states .now) (a .levels .now) (a .path .now)) (a .ended .end) (a .ended .questions)
+    (m .match .states) (m .match .front) (m .match .len) (m .match .number) (m .match .verdict))
+unfolding ended
+closable m =
+    let s = m .before .before .before .before in
+    ⊎-elim
+    (λ w. let e = w .1 .given in
+    let k = w .5 .ensures in
+    let b : e .0 .1 .0 ≤ length (s .args .states .now) = rw (e .1) at (s .pre .0) in
+    rw (w .8, w .9, w .10, w .11, w .12) (closes-safe _ _ _ _ _ _ _ (e .1) (k .0) (omega (arith, k .1, k .2, b)) (k .2)))
+    (⊎-elim
+    (λ w. let e = w .1 .given in
+    rw (w .3, w .4, w .5, w .6, w .7) (closes-unsafe _ _ _ _ (e .1) (rw (e .1) at (s .pre .3))))
+    (⊎-elim
+    (λ w. rw (w .2, w .3, w .4, w .5, w .6) (closes-neither _ _ _ _ _ (w .1 .given .1) refl))
+    (λ w. rw (w .2, w .3, w .4, w .5, w .6) (closes-neither _ _ _ _ _ (w .1 .given .1) refl))))
+    (m .match .came)
+
+finish-requires : tie.Need-finish-requires
+finish-requires c κs =
+    let k = closable (c .before .before .before) in
+    (k .front-within, k .len-within)
 
 same-length : tie.Need-same-length
-same-length c = search needs
+same-length c =
+    let k = closable (c .before .before .before .before .before .before .before .before .before .before) .same in
+    search (needs, k)
 
 same-length-2 : tie.Need-same-length-2
 same-length-2 c = search needs
@@ -56,56 +69,9 @@ same-length-3 c = search needs
 
 returns : tie.Need-returns
 returns c =
-    let s = c .before .before .before .before .before .before .before .before .before .before .before .before .before .before .before .before .before .before .before .before .before in
-    let k = c .before .before .before .before .before .before .before .before .before .before .before .before .keep .ensures in
+    let m = c .before .before .before .before .before .before .before .before .before .before in
     let f = c .before .before .before .before .before .before .finish .ensures in
-    let e = c .before .before .before .before .before .before .before .before .before .before .before .before .before .before .before .before .end .given in
-    let b : e .0 .1 .0 ≤ length (s .args .states .now) = rw (e .1) at (s .pre .0) in
-    closes-safe _ _ _ _ _ _ (f .1) _ _ _ _ (e .1) (k .0) (omega (arith, k .1, k .2, b)) (k .2) (f .0) (f .2)
-
-same-length-4 : tie.Need-same-length-4
-same-length-4 c = search needs
-
-same-length-5 : tie.Need-same-length-5
-same-length-5 c = search needs
-
-same-length-6 : tie.Need-same-length-6
-same-length-6 c = search needs
-
-returns-2 : tie.Need-returns-2
-returns-2 c =
-    let s = c .before .before .before .before .before .before .before .before .before .before .before .before .before .before .before .before in
-    let f = c .before .before .before .before .before .before .finish2 .ensures in
-    let q = c .before .before .before .before .before .before .before .before .before .before .before .end2 .given .1 in
-    closes-unsafe _ _ _ _ _ _ (f .1) _ q (rw q at (s .pre .3)) (f .0) (f .2)
-
-same-length-7 : tie.Need-same-length-7
-same-length-7 c = search needs
-
-same-length-8 : tie.Need-same-length-8
-same-length-8 c = search needs
-
-same-length-9 : tie.Need-same-length-9
-same-length-9 c = search needs
-
-returns-3 : tie.Need-returns-3
-returns-3 c =
-    let f = c .before .before .before .before .before .before .finish3 .ensures in
-    closes-full _ _ _ _ _ _ (f .1) (f .0) (f .2) (c .before .before .before .before .before .before .before .before .before .before .enum-told .given .1)
-
-same-length-10 : tie.Need-same-length-10
-same-length-10 c = search needs
-
-same-length-11 : tie.Need-same-length-11
-same-length-11 c = search needs
-
-same-length-12 : tie.Need-same-length-12
-same-length-12 c = search needs
-
-returns-4 : tie.Need-returns-4
-returns-4 c =
-    let f = c .before .before .before .before .before .before .finish4 .ensures in
-    closes-spent _ _ _ _ _ _ (f .1) (f .0) (f .2) (c .before .before .before .before .before .before .before .before .before .before .enum-told2 .given .1)
+    closable m .closes _ _ _ (f .0) (f .1) (f .2)
 
 pub close-spec : {M : Type 1} → statement M
 close-spec =
@@ -113,26 +79,11 @@ close-spec =
     (tie.spec
     enum-known-end
     keep-requires
-    finish-requires
     enum-known-end-2
-    finish-requires-2
     enum-told
-    finish-requires-3
     enum-told-2
-    finish-requires-4
+    finish-requires
     same-length
     same-length-2
     same-length-3
-    returns
-    same-length-4
-    same-length-5
-    same-length-6
-    returns-2
-    same-length-7
-    same-length-8
-    same-length-9
-    returns-3
-    same-length-10
-    same-length-11
-    same-length-12
-    returns-4)
+    returns)

@@ -1,11 +1,12 @@
--- `search::raise` meets its contract: if a state is found, the round goes on behind the entry; else it does so once the entry's level is raised.
--- Assumes nothing.
+-- `search::raise` meets its contract: if a state is found, the levels stay as they are; else the entry's level is raised. Either way the round goes on
+-- behind the entry. Assumes nothing.
 use Prim.Native.Nat.{_+_}
-use mathlib.Core.Path.{refl, _∙_}
+use mathlib.Core.Logic.{⊎-elim}
+use mathlib.Core.Path.{_≡_, ap, _∙_}
 use native.Mathlib.Omega.{arith}
 use borrow.Author.Needs.{needs}
-use lib.ListN.{length-set}
-use Rattle.search.specs.Lent.{systemOf}
+use lib.ListN.{length, length-set}
+use Rattle.system.specs.System.{systemOf}
 use Rattle.search.proofs.Raising.{entry-level, raised-tidy, raise-not, raise-up}
 use Rattle.search.proofs.raise.Statement.{statement}
 use Rattle.search.proofs.raise.Tie as tie
@@ -22,17 +23,6 @@ step-state-requires c κs = search needs
 enum-told : tie.Need-enum-told
 enum-told c = search needs
 
-add-round : tie.Need-add-round
-add-round c = search needs
-
-round-requires : tie.Need-round-requires
-round-requires c κs =
-    let s = c .before .before .before .before .before .before .before .before .before .before in
-    let a = s .args in
-    let asks = s .pre .0 in
-    let one = entry-level (a .count) (a .i) (a .j) (a .states .now) (a .levels .now) (asks .tidy) (s .pre .1) (s .pre .2) in
-    (asks .levels, one, omega arith, omega arith)
-
 enum-told-2 : tie.Need-enum-told-2
 enum-told-2 c = search needs
 
@@ -45,50 +35,45 @@ mul-levels c = search needs
 slice-write-levels : tie.Need-slice-write-levels
 slice-write-levels c = search needs
 
-add-round-2 : tie.Need-add-round-2
-add-round-2 c = search needs
+add-round : tie.Need-add-round
+add-round c = search needs
 
-round-requires-2 : tie.Need-round-requires-2
-round-requires-2 c κs =
-    let s = c .before .before .before .before .before .before .before .before .before .before in
+-- the level store keeps its length
+same : (m : tie.At-match-came)
+    → length (m .match .levels) ≡ length (m .before .before .before .before .before .before .before .before .args .levels .now)
+same m =
+    let a = m .before .before .before .before .before .before .before .before .args in
+    ⊎-elim (λ w. ap length (w .2)) (λ w. ap length (w .2) ∙ length-set (a .levels .now) (a .j) (a .i + 1)) (m .match .came)
+
+round-requires : tie.Need-round-requires
+round-requires c κs =
+    let s = c .before .before .before .before .before .before .before .before .before in
     let a = s .args in
     let asks = s .pre .0 in
     let one = entry-level (a .count) (a .i) (a .j) (a .states .now) (a .levels .now) (asks .tidy) (s .pre .1) (s .pre .2) in
-    (rw (length-set (a .levels .now) (a .j) (a .i + 1)) (asks .levels), one, omega arith, omega arith)
+    (rw (same (c .before)) (asks .levels), one, omega arith, omega arith)
 
 same-length : tie.Need-same-length
-same-length c = search needs
+same-length c = same (c .before .before)
 
 returns : tie.Need-returns
 returns c =
-    let s = c .before .before .before .before .before .before .before .before .before .before .before in
+    let m = c .before .before in
+    let s = m .before .before .before .before .before .before .before .before in
     let a = s .args in
-    let o = c .before .before .before .before .step-state in
-    let told = c .before .before .enum-told .given in (
-      λ bad path room. c .round .ensures .0 (a .states .now) path (s .pre .0 .tidy)
-          ∙ raise-not (systemOf (a .n) (a .start .now) (a .step .now) bad) (a .top) (a .count) (a .i) (a .j) (a .states .now) (a .levels .now)
-          (s .pre .0) (s .pre .1) (s .pre .3) room (told .0 .0) (rw (told .1) at (o .ensures)),
-      c .round .ensures .1,
-      refl,
-    )
-
-same-length-2 : tie.Need-same-length-2
-same-length-2 c = search needs
-
-returns-2 : tie.Need-returns-2
-returns-2 c =
-    let s = c .before .before .before .before .before .before .before .before .before .before .before in
-    let a = s .args in
-    let o = c .before .before .before .before .step-state in
-    let told = c .before .before .enum-told2 .given in
-    let same = length-set (a .levels .now) (a .j) (a .i + 1) in (
+    let o = m .before .step-state in (
       λ bad path room. let y = systemOf (a .n) (a .start .now) (a .step .now) bad in
-          c .round2 .ensures .0 (a .states .now) path
-          (raised-tidy y (a .top) (a .count) (a .i) (a .j) (a .states .now) (a .levels .now) (s .pre .0) (s .pre .1) (s .pre .3))
-          ∙ raise-up y (a .top) (a .count) (a .i) (a .j) (a .states .now) (a .levels .now) (s .pre .0) (s .pre .1) (s .pre .3) room
-          (rw (told .1) at (o .ensures)),
-      rw same at (c .round2 .ensures .1),
-      same,
+          ⊎-elim
+          (λ w. c .round .ensures .0 (a .states .now) path (rw (w .2) (s .pre .0 .tidy))
+          ∙ rw (w .2) (raise-not y (a .top) (a .count) (a .i) (a .j) (a .states .now) (a .levels .now) (s .pre .0) (s .pre .1) (s .pre .3) room
+          (w .1 .given .0 .0) (rw (w .1 .given .1) at (o .ensures))))
+          (λ w. c .round .ensures .0 (a .states .now) path
+          (rw (w .2) (raised-tidy y (a .top) (a .count) (a .i) (a .j) (a .states .now) (a .levels .now) (s .pre .0) (s .pre .1) (s .pre .3)))
+          ∙ rw (w .2) (raise-up y (a .top) (a .count) (a .i) (a .j) (a .states .now) (a .levels .now) (s .pre .0) (s .pre .1) (s .pre .3) room
+          (rw (w .1 .given .1) at (o .ensures))))
+          (m .match .came),
+      rw (same m) at (c .round .ensures .1),
+      same m,
     )
 
 pub raise-spec : {M : Type 1} → statement M
@@ -99,15 +84,11 @@ raise-spec =
     shared-slice-read-s
     step-state-requires
     enum-told
-    add-round
-    round-requires
     enum-told-2
     add-levels
     mul-levels
     slice-write-levels
-    add-round-2
-    round-requires-2
+    add-round
+    round-requires
     same-length
-    returns
-    same-length-2
-    returns-2)
+    returns)

@@ -5,7 +5,8 @@ use mathlib.Core.Path.{refl}
 use native.Mathlib.Numerals.{add-one}
 use borrow.Author.Needs.{needs}
 use lib.ListN.{length, getD}
-use Rattle.search.specs.Lent.{systemOf, duties}
+use Rattle.system.specs.System.{systemOf}
+use Rattle.search.specs.Lent.{duties}
 use Rattle.search.proofs.Taken.{settle-some, settle-none}
 use Rattle.search.proofs.settle.Statement.{statement}
 use Rattle.search.proofs.settle.Tie as tie

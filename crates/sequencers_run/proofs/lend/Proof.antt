@@ -8,6 +8,9 @@ use Rattle.sequencers_run.proofs.lend.Tie as tie
 cast-levels : tie.Need-cast-levels
 cast-levels c = search needs
 
+write-requires : tie.Need-write-requires
+write-requires c κs = search needs
+
 array-borrow-prefix-states : tie.Need-array-borrow-prefix-states
 array-borrow-prefix-states c = search needs
 
@@ -37,6 +40,7 @@ lend-spec =
     tie.close
     (tie.spec
     cast-levels
+    write-requires
     array-borrow-prefix-states
     slice-aggregate-run
     array-borrow-prefix-levels
