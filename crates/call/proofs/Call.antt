@@ -1,5 +1,5 @@
--- The call, case by case; that it has one result; and that every store keeps its length, since evidence is never longer than the room and a
--- path by at most two. Assumes nothing.
+-- The call, case by case; that it has one result; that what it says is right; and that every store keeps its length, since evidence is never
+-- longer than the room and a path by at most two. Assumes nothing.
 use Prim.Native.Nat.{ℕ, zero, suc, _+_, _≤_}
 use mathlib.Core.Bool.{Bool, true, false, not, _||_}
 use mathlib.Core.List.{List, []}
@@ -10,10 +10,13 @@ use lib.Dec.{eqb, ltb}
 use lib.ListN.{length, length-append, length-replicate}
 use Rattle.ic3.specs.Model.{Model}
 use Rattle.ic3.specs.Search.{Verdict, safe, unsafe, noRoom, spent, searched}
+use Rattle.ic3.specs.Demands.{Demand-2}
 use Rattle.ic3.proofs.Tests.{clash}
+use Rattle.ic3.proofs.Sound.{demand-2}
 use Rattle.ic3.proofs.Fit.{FitsEnding, ending-fits}
 use Rattle.system.specs.System.{System, model, refusalOf}
 use Rattle.call.specs.Call.{Stores, wrongStores, refused, says-nothing, Result, result, over, leaves, ended, called}
+use Rattle.call.specs.Promise.{Right}
 
 -- the system's own refusals come first
 pub refused-system : (y : System) (s : Stores) (r : ℕ) → refusalOf y ≡ suc r → refused y s ≡ suc r
@@ -27,6 +30,15 @@ refused-stores y s e w = rw (e, refused) (rw w)
 pub refused-not : (y : System) (s : Stores) → refusalOf y ≡ 0 → wrongStores s ≡ false → refused y s ≡ 0
 unfolding refused
 refused-not y s e w = rw (e, refused) (rw w)
+
+pub refused-none : (y : System) (s : Stores) → refused y s ≡ 0 → (refusalOf y ≡ 0) × (wrongStores s ≡ false)
+unfolding refused
+refused-none y s e = pick (refusalOf y) (wrongStores s) e
+  where
+    pick : (r : ℕ) (b : Bool) → _≡_ {A = ℕ} (elim r [ zero ↦ elim b [ true ↦ 4 | false ↦ 0 ] | suc q ↦ suc q ]) 0 → (r ≡ 0) × (b ≡ false)
+    pick zero true g = absurd (omega arith)
+    pick zero false g = (refl, refl)
+    pick (suc r) b g = absurd (omega arith)
 
 module _ (y : System) (s : Stores) (allowance : ℕ) where
   pub called-refused : (r : ℕ) → refused y s ≡ suc r → called y s allowance ≡ result (suc r) says-nothing 0 [] s
@@ -42,6 +54,31 @@ module _ (y : System) (s : Stores) (allowance : ℕ) where
   -- any two results that the call allows are equal
   pub one-result : (r r' : Result) → r ≡ called y s allowance → r' ≡ called y s allowance → r ≡ r'
   one-result r r' e e' = e ∙ sym e'
+
+-- ---- demand 2
+ended-right : (M : Model) (s : Stores) (q : ℕ) (v : Verdict) → Demand-2 M v → Right M (ended s q v .said) (ended s q v .evidence)
+unfolding ended
+ended-right M s q (safe evidence) d = d
+ended-right M s q (unsafe path) d = d
+ended-right M s q spent d = tt
+ended-right M s q noRoom d = tt
+
+module _ (y : System) (s : Stores) (allowance : ℕ) where
+  -- what a call says is right
+  pub called-right : Right (model y) (called y s allowance .said) (called y s allowance .evidence)
+  called-right = pick (refused y s) refl
+    where
+      pick : (r : ℕ) → refused y s ≡ r → Right (model y) (called y s allowance .said) (called y s allowance .evidence)
+      pick zero e = rw (called-searches y s allowance e) (ended-right (model y) s _ _ (demand-2 (model y) (length (s .states)) allowance))
+      pick (suc r) e = rw (called-refused y s allowance r e) tt
+
+  -- a call that says something was given a system that is not refused
+  pub called-accepts : (called y s allowance .said ≡ says-nothing → ⊥) → refusalOf y ≡ 0
+  called-accepts f = pick (refused y s) refl
+    where
+      pick : (r : ℕ) → refused y s ≡ r → refusalOf y ≡ 0
+      pick zero e = refused-none y s e .0
+      pick (suc r) e = absurd (f (rw (called-refused y s allowance r e)))
 
 -- ---- lengths
 pub over-length : (front store : List ℕ) → length front ≤ length store → length (over front store) ≡ length store
@@ -69,15 +106,6 @@ stores-fitting s e =
     pick true true c g = clash refl g
     pick true false c g = (refl, refl, g)
     pick false b c g = clash refl g
-
-pub refused-none : (y : System) (s : Stores) → refused y s ≡ 0 → wrongStores s ≡ false
-unfolding refused
-refused-none y s e = pick (refusalOf y) (wrongStores s) e
-  where
-    pick : (r : ℕ) (b : Bool) → _≡_ {A = ℕ} (elim r [ zero ↦ elim b [ true ↦ 4 | false ↦ 0 ] | suc q ↦ suc q ]) 0 → b ≡ false
-    pick zero true g = absurd (omega arith)
-    pick zero false g = refl
-    pick (suc r) b g = absurd (omega arith)
 
 -- `after` is as long as `before`, store by store
 pub record Lengths (before after : Stores) : Type 0 where
@@ -108,5 +136,5 @@ called-lengths y s allowance = pick (refused y s) refl
     pick : (r : ℕ) → refused y s ≡ r → Lengths s (called y s allowance .after)
     pick zero e =
         rw (called-searches y s allowance e)
-        (ended-lengths (model y) s _ _ (stores-fitting s (refused-none y s e) .path) (ending-fits (model y) (length (s .states)) allowance))
+        (ended-lengths (model y) s _ _ (stores-fitting s (refused-none y s e .1) .path) (ending-fits (model y) (length (s .states)) allowance))
     pick (suc r) e = rw (called-refused y s allowance r e) (record { states = refl; levels = refl; path = refl })

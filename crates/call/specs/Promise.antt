@@ -36,11 +36,11 @@ evidenceOf Neither ss path = []
 abbrev pub resultOf : Outcome → Stores → Result
 resultOf o after = result (o .number) (saidOf (o .verdict)) (o .questions) (evidenceOf (o .verdict) (after .states) (after .path)) after
 
--- demand 2, of a verdict and its evidence
-abbrev pub Right : Model → Verdict → List ℕ → Type 0
-Right M (SafeBy n) evidence = Safe M evidence
-Right M (UnsafeBy n) evidence = Unsafe M evidence
-Right M Neither evidence = Unit {0}
+-- demand 2, of what is said and its evidence
+abbrev pub Right : Model → Said → List ℕ → Type 0
+Right M says-safe evidence = Safe M evidence
+Right M says-unsafe evidence = Unsafe M evidence
+Right M says-nothing evidence = Unit {0}
 
 -- demand 3, of a call: m is the number of states that are no start state and lead to a bad one
 pub record Within (y : System) (lent : Stores) (allowance : ℕ) (o : Outcome) (m : ℕ) : Type 0 where
@@ -50,6 +50,6 @@ pub record Within (y : System) (lent : Stores) (allowance : ℕ) (o : Outcome) (
 pub record Promised (y : System) (lent : Stores) (allowance : ℕ) (o : Outcome) (after : Stores) : Type 0 where
   pub equation : resultOf o after ≡ called y lent allowance
   pub evidence-length : lengthOf (o .verdict) ≡ length (called y lent allowance .evidence)
-  pub demand-2 : Right (model y) (o .verdict) (evidenceOf (o .verdict) (after .states) (after .path))
+  pub demand-2 : Right (model y) (saidOf (o .verdict)) (evidenceOf (o .verdict) (after .states) (after .path))
   pub demand-3 : (m : ℕ) → Number (Doomed (model y)) m → Within y lent allowance o m
   pub exists-m : (m : ℕ) × Number (Doomed (model y)) m

@@ -177,3 +177,8 @@ module _ (M : Model) where
   excluded-unreached out X (starts {s = s} h e) = X .no-start s h e
   excluded-unreached out X (steps {s = s} {t = t} r h e) =
       X .closed s t (reach-state r) h (excluded-unreached out X r) e
+
+  -- right evidence: no reachable state is bad
+  pub excludes-never : (out : ℕ → Bool) → Excludes M out → (k s : ℕ) → Reach M k s → M .bad s ≡ false
+  excludes-never out X k s r =
+      test (M .bad s) (λ e. clash (X .all-bad s (reach-state r) e) (excluded-unreached out X r)) (λ e. e)

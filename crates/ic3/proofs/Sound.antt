@@ -5,7 +5,7 @@ use Prim.Native.Nat.{ℕ, zero, suc, _+_, _≤_, _<_}
 use mathlib.Core.Bool.{Bool, true, false, _&&_}
 use mathlib.Core.List.{List, [], _∷_}
 use mathlib.Core.Option.{Option, none, some}
-use mathlib.Core.Path.{_≡_}
+use mathlib.Core.Path.{_≡_, sym, _∙_}
 use native.Mathlib.Omega.{arith}
 use borrow.Author.Tests.{leb-true, leb-false, lt-leb, eqb-true, eqb-false}
 use lib.Dec.{eqb, leb}
@@ -16,7 +16,7 @@ use Rattle.ic3.specs.Demands.{Leads, listed, Safe, Demand-2, Doomed}
 use Rattle.ic3.proofs.Tests.{test, clash, both, first-false}
 use Rattle.ic3.proofs.Least.{least-answers}
 use Rattle.ic3.proofs.Store.{level-put, level-put-other, Tidy, put-tidy, Stored, stored-put, states-listed}
-use Rattle.ic3.proofs.Frames.{Frames, reach-state, leads-state, path-hit, inside-level, frames-none, hit-late, leads-no-start, frames-grown, frames-raised, gap-excludes, excluded-unreached}
+use Rattle.ic3.proofs.Frames.{Frames, leads-state, path-hit, inside-level, frames-none, hit-late, leads-no-start, frames-grown, frames-raised, gap-excludes, excludes-never}
 use Rattle.ic3.proofs.Round.{Lands, round-lands, tested-lands, empty-level, level-head}
 use Rattle.ic3.proofs.Run.{Turned, searched-keeps}
 
@@ -116,11 +116,10 @@ module _ (M : Model) where
         (λ s b e. empty-level st (K .tidy) i h q s e)
         (states-listed (leb i) (lt-leb i 0 h) st (K .tidy)) in
         record {
+          states = λ s e.
+              K .states s (omega (arith, leb-true i (levelOf st s) (sym (states-listed (leb i) (lt-leb i 0 h) st (K .tidy) s) ∙ e)));
           excludes = X;
-          never = λ k s r.
-              test (M .bad s)
-              (λ e. clash (X .all-bad s (reach-state M r) e) (excluded-unreached M (listed (states (leb i) st)) X r))
-              (λ e. e);
+          never = excludes-never M (listed (states (leb i) st)) X;
         }
 
     round-fine : (i : ℕ) → 1 ≤ i → Lands Fine N st i

@@ -35,8 +35,9 @@ pub record Excludes (M : Model) (out : ℕ → Bool) : Type 0 where
   pub all-bad : (s : ℕ) → s < M .size → M .bad s ≡ true → out s ≡ true
   pub closed : (s t : ℕ) → s < M .size → t < M .size → out s ≡ false → M .step s t ≡ true → out t ≡ false
 
--- no reachable state is bad, with evidence that is right
+-- no reachable state is bad, with evidence that is right and lists states
 pub record Safe (M : Model) (evidence : List ℕ) : Type 0 where
+  pub states : (s : ℕ) → listed evidence s ≡ true → s < M .size
   pub excludes : Excludes M (listed evidence)
   pub never : (k s : ℕ) → Reach M k s → M .bad s ≡ false
 

@@ -14,3 +14,4 @@ pub mod Walk
 pub mod Asking
 pub mod Conditions
 pub mod Model
+pub mod Listed

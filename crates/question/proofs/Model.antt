@@ -22,7 +22,7 @@ use Rattle.question.specs.Question.{excluded, inside, badIn, stepIn}
 use Rattle.question.specs.Stored.{stored}
 
 -- the first position, or a later one
-somewhere-first : (k : ℕ) (p : ℕ → Bool) → somewhere (suc k) p ≡ (p 0 || somewhere k (λ j. p (suc j)))
+pub somewhere-first : (k : ℕ) (p : ℕ → Bool) → somewhere (suc k) p ≡ (p 0 || somewhere k (λ j. p (suc j)))
 unfolding somewhere
 somewhere-first zero p = somewhere-suc zero p
 somewhere-first (suc k) p =

@@ -7,23 +7,21 @@ use mathlib.Core.List.{List, []}
 use mathlib.Core.Path.{_≡_, refl, sym, ap, _∙_}
 use native.Mathlib.Omega.{arith}
 use lib.ListN.{length}
-use Rattle.ic3.specs.Model.{Model}
 use Rattle.ic3.specs.Search.{Verdict as Ending, safe, unsafe, noRoom, spent, searched}
-use Rattle.ic3.specs.Demands.{Demand-2, Answered}
+use Rattle.ic3.specs.Demands.{Answered}
 use Rattle.ic3.proofs.Fit.{FitsEnding, ending-fits}
-use Rattle.ic3.proofs.Sound.{demand-2}
 use Rattle.ic3.proofs.Bound.{demand-3}
 use Rattle.system.specs.System.{System, model, refusalOf}
 use Rattle.system.proofs.Refusals.{size-right, refusal-none}
 use Rattle.call.specs.Call.{Stores, wrongStores, refused, leaves, ended, called}
 use Rattle.search.specs.Lent.{verdictOf, BoundedEnd, FitsEnd, Lends, Ends}
-use Rattle.call.specs.Promise.{saidOf, lengthOf, resultOf, Right, Promised}
+use Rattle.call.specs.Promise.{saidOf, lengthOf, resultOf, Promised}
 use Rattle.search.specs.declared.End.{End}
 use Rattle.search.specs.declared.End.the-variants.{Safe, Unsafe, NoRoom, Spent}
 use Rattle.call.specs.declared.Outcome.{Outcome}
 use Rattle.call.specs.declared.Verdict.{Verdict}
 use Rattle.call.specs.declared.Verdict.the-variants.{SafeBy, UnsafeBy, Neither}
-use Rattle.call.proofs.Call.{refused-system, refused-stores, called-refused, called-searches, stores-fitting, Lengths}
+use Rattle.call.proofs.Call.{refused-system, refused-stores, called-refused, called-searches, called-right, stores-fitting, Lengths}
 use Rattle.search.proofs.Closing.{part-length, over-same, Closes}
 
 -- ---- how a search ends
@@ -62,20 +60,6 @@ module _ (s : Stores) (q : ℕ) where
   ended-answers (unsafe path) a = refl
   ended-answers noRoom a = absurd a
   ended-answers spent a = absurd a
-
-  -- what is said tells which verdict it was, and the evidence is the verdict's own
-  ended-right : (M : Model) (v : Ending) (w : Verdict) (evidence : List ℕ) → saidOf w ≡ ended s q v .said → evidence ≡ ended s q v .evidence
-      → Demand-2 M v → Right M w evidence
-  unfolding ended
-  ended-right M (safe x) (SafeBy n) evidence a b d = rw b d
-  ended-right M (safe x) (UnsafeBy n) evidence a b d = absurd (let o : _≡_ {A = ℕ} 0 1 = cc in omega arith)
-  ended-right M (unsafe x) (SafeBy n) evidence a b d = absurd (let o : _≡_ {A = ℕ} 0 1 = cc in omega arith)
-  ended-right M (unsafe x) (UnsafeBy n) evidence a b d = rw b d
-  ended-right M noRoom (SafeBy n) evidence a b d = absurd (let o : _≡_ {A = ℕ} 0 1 = cc in omega arith)
-  ended-right M noRoom (UnsafeBy n) evidence a b d = absurd (let o : _≡_ {A = ℕ} 0 1 = cc in omega arith)
-  ended-right M spent (SafeBy n) evidence a b d = absurd (let o : _≡_ {A = ℕ} 0 1 = cc in omega arith)
-  ended-right M spent (UnsafeBy n) evidence a b d = absurd (let o : _≡_ {A = ℕ} 0 1 = cc in omega arith)
-  ended-right M v Neither evidence a b d = tt
 
 module _ (y : System) (room allowance : ℕ) (e : End) (asked : ℕ) (ss ls path : List ℕ) (w : Ends y room allowance e asked ss ls path) where
   -- a path is longer than the room by at most two
@@ -151,11 +135,11 @@ module _ (y : System) (lent : Stores) (allowance : ℕ) where
     pub searched-promised : (o : Outcome) (after : Stores) → Closes s e asked o after → Promised y lent allowance o after
     searched-promised o after c =
         let room = length (lent .states) in
-        let d : Demand-2 (model y) v = rw (w .verdict) (demand-2 (model y) room allowance) in
+        let q : resultOf o after ≡ called y lent allowance = c .0 ∙ sym called-ends in
         record {
-          equation = c .0 ∙ sym called-ends;
+          equation = q;
           evidence-length = rw called-ends (c .1);
-          demand-2 = ended-right s asked (model y) v (o .verdict) _ (ap (λ r. r .said) (c .0)) (ap (λ r. r .evidence) (c .0)) d;
+          demand-2 = rw (ap (λ r. r .said) q, ap (λ r. r .evidence) q) (called-right y lent allowance);
           demand-3 = λ m D. let b = demand-3 (model y) .bounded m D in
               record {
                 few = rw (ap (λ r. r .questions) (c .0) ∙ (ended-questions s asked v ∙ w .questions)) (b .few room allowance);

@@ -1,0 +1,71 @@
+-- `evidence::check_excluded` meets its contract: each return is a case of the definition, which the promise follows from. Assumes nothing.
+use mathlib.Core.Path.{sym, ap, _∙_}
+use native.Mathlib.Omega.{arith}
+use borrow.Author.Needs.{needs}
+use borrow.Author.Tests.{not-true, not-false}
+use Rattle.question.specs.Question.{answered}
+use Rattle.evidence.proofs.Judging.{refused-small}
+use Rattle.evidence.proofs.Cases.{excluded-refused, excluded-start, excluded-bad, excluded-closed}
+use Rattle.evidence.proofs.check_excluded.Statement.{statement}
+use Rattle.evidence.proofs.check_excluded.Tie as tie
+
+refusal-requires : tie.Need-refusal-requires
+refusal-requires c κs = search needs
+
+returns : tie.Need-returns
+returns c = excluded-refused _ _ _ (c .before .refusal .ensures) (c .if1 .taken)
+
+start-free-requires : tie.Need-start-free-requires
+start-free-requires c κs = search needs
+
+returns-2 : tie.Need-returns-2
+returns-2 c =
+    let past = c .before .before in
+    excluded-start _ _ (sym (past .before .refusal .ensures) ∙ past .if1 .left) (sym (c .before .start-free .ensures) ∙ not-true _ (c .if2 .taken))
+
+bad-outside-requires : tie.Need-bad-outside-requires
+bad-outside-requires c κs =
+    let past = c .before .before in
+    refused-small _ _ (sym (past .before .refusal .ensures) ∙ past .if1 .left)
+
+enum-told : tie.Need-enum-told
+enum-told c = search needs
+
+enum-told-2 : tie.Need-enum-told-2
+enum-told-2 c = search needs
+
+closed-requires : tie.Need-closed-requires
+closed-requires c κs =
+    let past = c .before .before .before .before .before in
+    refused-small _ _ (sym (past .before .refusal .ensures) ∙ past .if1 .left)
+
+returns-3 : tie.Need-returns-3
+returns-3 c =
+    let asked = c .before .before in
+    let past = asked .before .before .before in
+    excluded-bad _ _ (sym (past .before .refusal .ensures) ∙ past .if1 .left)
+    (sym (asked .before .before .start-free .ensures) ∙ not-false _ (asked .before .if2 .left))
+    _ (sym (asked .bad-outside .ensures) ∙ ap answered (c .enum-told .given .1))
+
+returns-4 : tie.Need-returns-4
+returns-4 c =
+    let asked = c .before .before .before in
+    let past = asked .before .before .before in
+    excluded-closed _ _ (sym (past .before .refusal .ensures) ∙ past .if1 .left)
+    (sym (asked .before .before .start-free .ensures) ∙ not-false _ (asked .before .if2 .left))
+    _ (sym (asked .bad-outside .ensures) ∙ ap answered (c .before .enum-told2 .given .1)) (c .closed .ensures)
+
+pub check-excluded-spec : {M : Type 1} → statement M
+check-excluded-spec =
+    tie.close
+    (tie.spec
+    refusal-requires
+    returns
+    start-free-requires
+    returns-2
+    bad-outside-requires
+    enum-told
+    enum-told-2
+    closed-requires
+    returns-3
+    returns-4)
