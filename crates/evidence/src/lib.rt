@@ -100,13 +100,7 @@ fn closed(n: u32, step: &[u64], states: &[u64]) -> Checked
 }
 
 // Excluded states: yes exactly if no start state is listed, every bad state is listed, and no state outside the list steps into it.
-pub fn check_excluded(
-    n: u32,
-    start: &[u64],
-    step: &[u64],
-    bad: &[u64],
-    states: &[u64],
-) -> Checked
+pub fn check_excluded(n: u32, start: &[u64], step: &[u64], bad: &[u64], states: &[u64]) -> Checked
     ensures { λ r. ⌜ Excluded (systemOf n (now (start .entry)) (now (step .entry)) (now (bad .entry))) (now (states .entry)) r ⌝ }
 {
     let number = refusal(n, start, step, bad, states);

@@ -27,13 +27,6 @@ pub struct Tally {
     pub seed: u64,
 }
 
-// The next random number (xorshift).
-fn next(seed: u64) -> u64 {
-    let a = seed ^ (seed << 13);
-    let b = a ^ (a >> 7);
-    b ^ (b << 17)
-}
-
 // The position of a literal, from eight random bits.
 fn place(byte: u64, n: u64, kind: u64) -> u64 {
     let low = if n == 0 { 0 } else { byte % n };
@@ -100,7 +93,11 @@ fn fill_clauses(list: &mut [u64; 121], n: u64, kind: u64, width: u64, seed: u64)
     let mut j = 0;
     while j < 121 {
         let odd = j % 2;
-        random = if odd == 0 { next(random) } else { random };
+        random = if odd == 0 {
+            small_systems::next(random)
+        } else {
+            random
+        };
         list[j] = mask(random, odd as u64, n, kind, width);
         j += 1;
     }
@@ -134,7 +131,7 @@ fn fill_states(states: &mut [u64; 40], n: u64, seed: u64) -> u64 {
     let mut random = seed;
     let mut j = 0;
     while j < 40 {
-        random = next(random);
+        random = small_systems::next(random);
         states[j] = stored(random, n);
         j += 1;
     }
@@ -150,48 +147,11 @@ fn fill_levels(levels: &mut [u32; 40], seed: u64) -> u64 {
     let mut random = seed;
     let mut j = 0;
     while j < 40 {
-        random = next(random);
+        random = small_systems::next(random);
         levels[j] = level(random);
         j += 1;
     }
     random
-}
-
-// Whether the clause is true of the word, literal by literal from bit 0 up.
-fn clause_holds(ones: u64, zeros: u64, word: u64) -> bool {
-    let mut a = ones;
-    let mut b = zeros;
-    let mut w = word;
-    let mut left = ones | zeros;
-    while left != 0 {
-        if w % 2 == 0 {
-            if b % 2 == 1 {
-                return true;
-            }
-        } else if a % 2 == 1 {
-            return true;
-        }
-        a /= 2;
-        b /= 2;
-        w /= 2;
-        left /= 2;
-    }
-    false
-}
-
-// Whether every clause is true of the word. A last mask alone is no clause.
-fn list_holds(list: &[u64], word: u64) -> bool {
-    let mut j = 0;
-    while j < list.len() {
-        let second = j + 1;
-        if second < list.len() {
-            if !clause_holds(list[j], list[second], word) {
-                return false;
-            }
-        }
-        j = second + 1;
-    }
-    true
 }
 
 // Whether entry j counts at level i.
@@ -218,7 +178,7 @@ fn is_stored(states: &[u64], levels: &[u32], i: u32, state: u64) -> bool {
 // Whether the state is in R(i).
 fn inside(start: &[u64], states: &[u64], levels: &[u32], i: u32, state: u64) -> bool {
     if i == 0 {
-        list_holds(start, state)
+        small_systems::list_holds(start, state)
     } else {
         !is_stored(states, levels, i, state)
     }
@@ -236,7 +196,9 @@ fn walk(
 ) -> u64 {
     let mut state = 0;
     while state < end {
-        if list_holds(list, state | later) && inside(start, states, levels, i, state) {
+        if small_systems::list_holds(list, state | later)
+            && inside(start, states, levels, i, state)
+        {
             return state;
         }
         state += 1;
@@ -383,8 +345,8 @@ fn question(t: Tally) -> Tally {
     let mut list = [0u64; 121];
     let mut states = [0u64; 40];
     let mut levels = [0u32; 40];
-    let shape = next(t.seed);
-    let sizes = next(shape);
+    let shape = small_systems::next(t.seed);
+    let sizes = small_systems::next(shape);
     let n = sizes % 12 + 1;
     let width = shape >> 20;
     let kind = if (shape >> 14) % 2 == 0 { WILD } else { LOW };
@@ -392,7 +354,16 @@ fn question(t: Tally) -> Tally {
     let random = fill_clauses(&mut list, n, kind_of(shape), width, random);
     let random = fill_states(&mut states, n, random);
     let random = fill_levels(&mut levels, random);
-    cut(t, shape, sizes, start, list, states, levels, next(random))
+    cut(
+        t,
+        shape,
+        sizes,
+        start,
+        list,
+        states,
+        levels,
+        small_systems::next(random),
+    )
 }
 
 fn report(name: &[u8], number: u64) {

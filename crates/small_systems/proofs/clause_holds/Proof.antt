@@ -1,7 +1,7 @@
--- `question_trials::clause_holds` is safe and ends. The measure is what is left of the two masks. Assumes nothing.
+-- `small_systems::clause_holds` is safe and ends. The measure is what is left of the two masks. Assumes nothing.
 use borrow.Author.Needs.{needs}
-use Rattle.question_trials.proofs.clause_holds.Statement.{statement}
-use Rattle.question_trials.proofs.clause_holds.Tie as tie
+use Rattle.small_systems.proofs.clause_holds.Statement.{statement}
+use Rattle.small_systems.proofs.clause_holds.Tie as tie
 
 abbrev Inv-loop : tie.InvT-loop
 Inv-loop ones zeros word a₀ b₀ w₀ left₀ a b w left = Unit {0}

@@ -1,9 +1,9 @@
--- `question_trials::list_holds` is safe and ends. The measure is what is left of the length. Assumes nothing.
+-- `small_systems::list_holds` is safe and ends. The measure is what is left of the length. Assumes nothing.
 use Prim.Native.Nat.{_-_}
 use borrow.Author.Needs.{needs}
 use lib.ListN.{length}
-use Rattle.question_trials.proofs.list_holds.Statement.{statement}
-use Rattle.question_trials.proofs.list_holds.Tie as tie
+use Rattle.small_systems.proofs.list_holds.Statement.{statement}
+use Rattle.small_systems.proofs.list_holds.Tie as tie
 
 abbrev Inv-loop : tie.InvT-loop
 Inv-loop list word j₀ j = Unit {0}

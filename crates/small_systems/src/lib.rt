@@ -1,0 +1,347 @@
+// Small random systems, of 1 to 10 bits, and a walk over all their states. It shares no code with the crates that it is compared with: a clause is
+// tested literal by literal, a list clause by clause. Each function takes every argument.
+
+// What `distances` says of a state that no way leads to.
+pub const NEVER: u32 = 0xFFFF_FFFF;
+
+// Kinds of lists. NOTHING is one clause of two zero masks, EVERYTHING the empty list. CLAUSES has as many short clauses as the density says. The
+// others give what is true explicitly, with a clause for each state or pair left out: SOME of them, by the density; steps to the next state alone;
+// these and from each state to itself; steps to no higher state.
+pub const NOTHING: u64 = 0;
+
+pub const EVERYTHING: u64 = 1;
+
+pub const SOME: u64 = 2;
+
+pub const CLAUSES: u64 = 3;
+
+pub const CHAIN: u64 = 4;
+
+pub const LOOPS: u64 = 5;
+
+pub const DOWN: u64 = 6;
+
+const NONE: u64 = 0xFFFF_FFFF_FFFF_FFFF;
+
+// A clause, if one is to be written.
+pub struct Clause {
+    pub there: bool,
+    pub ones: u64,
+    pub zeros: u64,
+}
+
+// The next random number (xorshift).
+pub fn next(seed: u64) -> u64 {
+    let a = seed ^ (seed << 13);
+    let b = a ^ (a >> 7);
+    b ^ (b << 17)
+}
+
+// Whether the clause is true of the word, literal by literal from bit 0 up.
+pub fn clause_holds(ones: u64, zeros: u64, word: u64) -> bool {
+    let mut a = ones;
+    let mut b = zeros;
+    let mut w = word;
+    let mut left = ones | zeros;
+    while left != 0 {
+        if w % 2 == 0 {
+            if b % 2 == 1 {
+                return true;
+            }
+        } else if a % 2 == 1 {
+            return true;
+        }
+        a /= 2;
+        b /= 2;
+        w /= 2;
+        left /= 2;
+    }
+    false
+}
+
+// Whether every clause is true of the word. A last mask alone is no clause.
+pub fn list_holds(list: &[u64], word: u64) -> bool {
+    let mut j = 0;
+    while j < list.len() {
+        let second = j + 1;
+        if second < list.len() {
+            if !clause_holds(list[j], list[second], word) {
+                return false;
+            }
+        }
+        j = second + 1;
+    }
+    true
+}
+
+// The number of states.
+pub fn size(n: u32) -> usize {
+    1 << (n % 16)
+}
+
+// The low n bits.
+fn low(n: u32, bits: u64) -> u64 {
+    bits ^ ((bits >> (n % 16)) << (n % 16))
+}
+
+// Whether an explicit list is true of the state s with t one step later, or of s alone, where t is 0. With density d it is true of one half of d in
+// each row of 2^n on average.
+fn chosen(kind: u64, density: u64, n: u32, s: u64, t: u64, random: u64) -> bool {
+    let lucky = low(n % 16 + 1, random >> 20) < density;
+    let up = std::num::wrapping_sub_u64(t, s);
+    let some = (kind == SOME) | (kind == DOWN) & (t <= s);
+    let chain = (kind == CHAIN) & (up == 1) | (kind == LOOPS) & (up < 2);
+    (kind == EVERYTHING) | some & lucky | chain
+}
+
+// A literal as a mask, from eight random bits, if it has the wanted sign.
+fn literal(n: u32, later: bool, wanted: u64, bits: u64) -> u64 {
+    if n == 0 {
+        return 0;
+    }
+    let place = (bits >> 1) % 64 % (n as u64);
+    let high = if later { (bits >> 2) & 32 } else { 0 };
+    ((bits ^ wanted ^ 1) % 2) << ((place | high) % 64)
+}
+
+// A mask of three literals, or of two, where the first comes twice.
+fn literals(n: u32, later: bool, wanted: u64, random: u64) -> u64 {
+    let third = random >> ((random >> 24) % 2 * 16);
+    literal(n, later, wanted, random)
+        | literal(n, later, wanted, random >> 8)
+        | literal(n, later, wanted, third)
+}
+
+// Clause j of a list; of an explicit one that which is false of pair j, or state j, alone.
+fn made(kind: u64, density: u64, n: u32, later: bool, j: u64, random: u64) -> Clause {
+    if kind == NOTHING {
+        return Clause {
+            there: j == 0,
+            ones: 0,
+            zeros: 0,
+        };
+    }
+    if kind == CLAUSES {
+        return Clause {
+            there: true,
+            ones: literals(n, later, 1, random),
+            zeros: literals(n, later, 0, random),
+        };
+    }
+    let s = low(n, j);
+    let t = j >> (n % 16);
+    let half = low(n, NONE);
+    let all = if later { half | half << 32 } else { half };
+    Clause {
+        there: !chosen(kind, density, n, s, t, random),
+        ones: all ^ (s | t << 32),
+        zeros: s | t << 32,
+    }
+}
+
+// A clause written, if it is there and has room; the count of masks after it.
+fn put(list: &mut [u64], count: usize, c: Clause) -> usize {
+    if count < list.len() {
+        let second = count + 1;
+        if c.there && second < list.len() {
+            list[count] = c.ones;
+            list[second] = c.zeros;
+            return second + 1;
+        }
+    }
+    count
+}
+
+// A random list: of steps, or of states alone. The count of masks written.
+pub fn fill(kind: u64, density: u64, n: u32, later: bool, seed: u64, list: &mut [u64]) -> usize {
+    let bits = if later { n % 16 * 2 } else { n % 16 };
+    let most = if kind == CLAUSES {
+        density
+    } else {
+        1 << (bits % 32)
+    };
+    let end = most % (1 << 32);
+    let mut random = seed;
+    let mut count = 0;
+    let mut j = 0;
+    while j < end {
+        random = next(random);
+        count = put(list, count, made(kind, density, n, later, j, random));
+        j += 1;
+    }
+    count
+}
+
+// Entry j of the table. The entries are rows of 2^n: row t says which states step to t, row 2^n which are start states, the row after it which are
+// bad.
+fn entry(n: u32, start: &[u64], step: &[u64], bad: &[u64], j: usize) -> bool {
+    let row = j as u64 >> (n % 16);
+    let end = size(n) as u64;
+    let state = low(n, j as u64);
+    if row < end {
+        return list_holds(step, state | row << 32);
+    }
+    if row == end {
+        return list_holds(start, state);
+    }
+    row - end == 1 && list_holds(bad, state)
+}
+
+// The three lists written out. A whole table has 4^n + 2 * 2^n entries; what is behind it is false.
+pub fn table(n: u32, start: &[u64], step: &[u64], bad: &[u64], out: &mut [bool]) {
+    let mut j = 0;
+    while j < out.len() {
+        out[j] = entry(n, start, step, bad, j);
+        j += 1;
+    }
+}
+
+// What row `row` of the table says of state s.
+fn at(n: u32, table: &[bool], s: usize, row: usize) -> bool {
+    let j = s | row << (n % 16);
+    if j < table.len() { table[j] } else { false }
+}
+
+pub fn is_start(n: u32, table: &[bool], s: usize) -> bool {
+    (s < size(n)) & at(n, table, s, size(n))
+}
+
+// The row of the bad states is odd, as 2^n is even.
+pub fn is_bad(n: u32, table: &[bool], s: usize) -> bool {
+    (s < size(n)) & at(n, table, s, size(n) | 1)
+}
+
+pub fn is_step(n: u32, table: &[bool], s: usize, t: usize) -> bool {
+    (s < size(n)) & (t < size(n)) & at(n, table, s, t)
+}
+
+// Distance 0 for each start state, or for each bad one.
+fn begin(n: u32, table: &[bool], back: bool, dist: &mut [u32]) {
+    let end = size(n);
+    let row = if back { end | 1 } else { end };
+    let mut s = 0;
+    while s < dist.len() {
+        let first = (s < end) & at(n, table, s, row);
+        dist[s] = if first { 0 } else { NEVER };
+        s += 1;
+    }
+}
+
+// A step from a state at distance d to one that had none. Whether it was so.
+fn reach(dist: &mut [u32], from: usize, to: usize, d: u32) -> bool {
+    if from < dist.len() && to < dist.len() {
+        if dist[from] == d && dist[to] == NEVER {
+            dist[to] = std::num::wrapping_add_u32(d, 1);
+            return true;
+        }
+    }
+    false
+}
+
+// Pair j, if it is a step, taken in its direction or back.
+fn follow(n: u32, table: &[bool], back: bool, dist: &mut [u32], j: usize, d: u32) -> bool {
+    let s = low(n, j as u64) as usize;
+    let t = j >> (n % 16);
+    let from = if back { t } else { s };
+    at(n, table, s, t) && reach(dist, from, s ^ t ^ from, d)
+}
+
+// All steps from states at distance d. Whether some state was reached.
+fn spread(n: u32, table: &[bool], back: bool, dist: &mut [u32], d: u32) -> bool {
+    let end = 1 << (n % 16 * 2);
+    let mut some = false;
+    let mut j = 0;
+    while j < end {
+        some = follow(n, table, back, dist, j, d) | some;
+        j += 1;
+    }
+    some
+}
+
+// For each state the least number of steps from a start state to it; or, going back, from it to a bad one.
+pub fn distances(n: u32, table: &[bool], back: bool, dist: &mut [u32]) {
+    begin(n, table, back, dist);
+    let mut d = 0;
+    while d < 65536 {
+        if !spread(n, table, back, dist, d) {
+            return;
+        }
+        d += 1;
+    }
+}
+
+// Whether each number is below 2^n.
+pub fn are_states(n: u32, list: &[u64]) -> bool {
+    let end = size(n) as u64;
+    let mut j = 0;
+    while j < list.len() {
+        if end <= list[j] {
+            return false;
+        }
+        j += 1;
+    }
+    true
+}
+
+// Which states are listed.
+fn mark(list: &[u64]) -> [bool; 1024] {
+    let mut inside = [false; 1024];
+    let mut j = 0;
+    while j < list.len() {
+        let x = list[j];
+        if x < 1024 {
+            inside[x as usize] = true;
+        }
+        j += 1;
+    }
+    inside
+}
+
+// Whether s is listed and a start state, or not listed and bad, or steps into the list from outside, at t.
+fn breaks(n: u32, table: &[bool], inside: &[bool; 1024], s: usize, t: usize) -> bool {
+    if inside[s % 1024] {
+        return is_start(n, table, s);
+    }
+    is_bad(n, table, s) | inside[t % 1024] & at(n, table, s, t)
+}
+
+// Whether no start state is listed, every bad state is listed, and no state outside the list steps into it.
+pub fn excludes(n: u32, table: &[bool], list: &[u64]) -> bool {
+    let inside = mark(list);
+    let end = 1 << (n % 16 * 2);
+    let mut j = 0;
+    while j < end {
+        if breaks(
+            n,
+            table,
+            &inside,
+            low(n, j) as usize,
+            (j >> (n % 16)) as usize,
+        ) {
+            return false;
+        }
+        j += 1;
+    }
+    true
+}
+
+// Whether the path begins with a start state, each state steps to the next, and the last is bad.
+pub fn is_path(n: u32, table: &[bool], path: &[u64]) -> bool {
+    let mut last = 0;
+    let mut j = 0;
+    while j < path.len() {
+        let x = path[j];
+        let s = x as usize;
+        let right = if j == 0 {
+            is_start(n, table, s)
+        } else {
+            is_step(n, table, last, s)
+        };
+        if !right {
+            return false;
+        }
+        last = s;
+        j += 1;
+    }
+    0 < j && is_bad(n, table, last)
+}
