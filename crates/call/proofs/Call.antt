@@ -138,3 +138,19 @@ called-lengths y s allowance = pick (refused y s) refl
         rw (called-searches y s allowance e)
         (ended-lengths (model y) s _ _ (stores-fitting s (refused-none y s e .1) .path) (ending-fits (model y) (length (s .states)) allowance))
     pick (suc r) e = rw (called-refused y s allowance r e) (record { states = refl; levels = refl; path = refl })
+
+-- the evidence is longer than the room by two at most
+ended-evidence : (M : Model) (s : Stores) (q : ℕ) (v : Verdict) → FitsEnding M (length (s .states)) v q
+    → length (ended s q v .evidence) ≤ length (s .states) + 2
+unfolding ended
+ended-evidence M s q (safe evidence) f = omega (arith, f)
+ended-evidence M s q (unsafe path) f = f
+ended-evidence M s q spent f = omega arith
+ended-evidence M s q noRoom f = omega arith
+
+pub called-evidence : (y : System) (s : Stores) (allowance : ℕ) → length (called y s allowance .evidence) ≤ length (s .states) + 2
+called-evidence y s allowance = pick (refused y s) refl
+  where
+    pick : (r : ℕ) → refused y s ≡ r → length (called y s allowance .evidence) ≤ length (s .states) + 2
+    pick zero e = rw (called-searches y s allowance e) (ended-evidence (model y) s _ _ (ending-fits (model y) (length (s .states)) allowance))
+    pick (suc r) e = rw (called-refused y s allowance r e) (omega arith)

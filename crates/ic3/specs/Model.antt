@@ -1,5 +1,4 @@
--- What the search sees of a system, and what it asks. The search and demands 2 and 3 speak of a model alone, never of masks: another way
--- to write systems down changes only the map from systems to models.
+-- What the search sees of a system, and what it asks. It knows no masks: another way to write systems changes only the map to models.
 use Prim.Native.Nat.{ℕ, zero, suc, _<_}
 use mathlib.Core.Bool.{Bool, true, false}
 use mathlib.Core.Option.{Option, none, some}

@@ -6,12 +6,12 @@ ghost use lib.Dec.{leb};
 ghost use lib.ListN.{length, getD, take};
 ghost use Rattle.ic3.specs.Search.{put, states as statesOf, judge as judgeIn, found as foundIn, deeper as deeperIn, settled as settledIn, kept, next};
 ghost use Rattle.ic3.proofs.Store.{Tidy};
-ghost use Rattle.system.specs.System.{systemOf, model};
+ghost use Rattle.system.specs.System.{model};
 ghost use Rattle.question.specs.Question.{answered, badIn, stepIn};
 ghost use Rattle.call.specs.Call.{ended as endedBy, over};
 ghost use Rattle.search.specs.declared.Place.the-variants.{Look, Settle, Raise};
 ghost use Rattle.search.specs.Lent.{Asks, Lends, Ready, Moves, Ends, Placed, Bounded, storeOf, duties, configOf, moveOf, roundFrom, verdictOf, BoundedEnd, FitsEnd, FirstAt, KeptAs, LeastGap};
-ghost use Rattle.call.specs.Promise.{stores, lengthOf, resultOf, Promised};
+ghost use Rattle.call.specs.Promise.{systemOf, stores, lengthOf, resultOf, Promised};
 
 // What the awaited question is asked for: step 2 (or 1); step 3 for the duty of level k + 1; step 4 at level i for entry j.
 enum Place {

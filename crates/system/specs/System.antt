@@ -15,10 +15,6 @@ pub record System : Type 0 where
   pub step : List ℕ
   pub bad : List ℕ
 
--- the system of these four
-abbrev pub systemOf : ℕ → List ℕ → List ℕ → List ℕ → System
-systemOf n start step bad = record { n = n; start = start; step = step; bad = bad }
-
 -- the literals of a clause at position i: one of them is true of the word w
 unfoldable pub literalTrue : ℕ → ℕ → ℕ → ℕ → Bool
 literalTrue ones zeros w i = elim (bit w i) [ zero ↦ eqb (bit zeros i) 1 | suc b ↦ eqb (bit ones i) 1 ]

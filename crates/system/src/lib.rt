@@ -3,7 +3,7 @@
 ghost use mathlib.Core.Path.{_≡_};
 ghost use Prim.Native.Nat.{_≤_};
 ghost use mathlib.Core.Bool.{_||_};
-ghost use Rattle.system.specs.System.{systemOf, clauseTrue, listTrue, wrongSize, wrongCount, wrongBit, refusalOf};
+ghost use Rattle.system.specs.System.{clauseTrue, listTrue, wrongSize, wrongCount, wrongBit, refusalOf};
 
 // Whether the clause is true of the word: a bit wanted 1 is 1, or a bit wanted 0 is 0.
 pub fn clause_true(ones: u64, zeros: u64, word: u64) -> bool
@@ -81,7 +81,7 @@ fn wrong_bits(n: u32, start: &[u64], step: &[u64], bad: &[u64]) -> bool
 
 // The number of the first refusal, 1 to 3, that applies to the system; 0 if none does.
 pub fn refusal(n: u32, start: &[u64], step: &[u64], bad: &[u64]) -> u32
-    ensures { λ r. ⌜ r ≡ refusalOf (systemOf n (now (start .entry)) (now (step .entry)) (now (bad .entry))) ⌝ }
+    ensures { λ r. ⌜ r ≡ refusalOf (record { n = n; start = now (start .entry); step = now (step .entry); bad = now (bad .entry) }) ⌝ }
 {
     if wrong_size(n) {
         return 1;

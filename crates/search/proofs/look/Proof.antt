@@ -2,7 +2,7 @@
 -- nothing.
 use mathlib.Core.Path.{refl}
 use borrow.Author.Needs.{needs}
-use Rattle.system.specs.System.{systemOf}
+use Rattle.call.specs.Promise.{systemOf}
 use Rattle.search.proofs.Taken.{look-some, look-none}
 use Rattle.search.proofs.look.Statement.{statement}
 use Rattle.search.proofs.look.Tie as tie

@@ -1,7 +1,7 @@
 -- `search::one_turn` meets its contract: each place's function moves as the definition's turn does from there. Assumes nothing.
 use mathlib.Core.Path.{refl}
 use lib.ListN.{length}
-use Rattle.system.specs.System.{systemOf}
+use Rattle.call.specs.Promise.{systemOf}
 use Rattle.search.proofs.Turns.{look-ready, settle-ready, raise-ready, lends-kept}
 use borrow.Author.Needs.{needs}
 use Rattle.search.proofs.one_turn.Statement.{statement}

@@ -2,8 +2,9 @@
 use mathlib.Core.Bool.{true, false}
 use mathlib.Core.Path.{_≡_, sym, _∙_}
 use lib.ListN.{length}
-use Rattle.system.specs.System.{System, systemOf, refusalOf}
+use Rattle.system.specs.System.{System, refusalOf}
 use Rattle.call.specs.Call.{Stores, wrongStores}
+use Rattle.call.specs.Promise.{systemOf}
 use Rattle.call.proofs.Call.{refused-not}
 use Rattle.search.proofs.Promising.{system-promised, stores-promised, lends, ends-closing, searched-promised}
 use borrow.Author.Needs.{needs}

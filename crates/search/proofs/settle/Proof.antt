@@ -5,7 +5,7 @@ use mathlib.Core.Path.{refl}
 use native.Mathlib.Numerals.{add-one}
 use borrow.Author.Needs.{needs}
 use lib.ListN.{length, getD}
-use Rattle.system.specs.System.{systemOf}
+use Rattle.call.specs.Promise.{systemOf}
 use Rattle.search.specs.Lent.{duties}
 use Rattle.search.proofs.Taken.{settle-some, settle-none}
 use Rattle.search.proofs.settle.Statement.{statement}

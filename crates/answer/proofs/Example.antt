@@ -1,0 +1,19 @@
+-- The definition of the answer gives document 01's own example: reader, search and frames are computed. Assumes nothing.
+use mathlib.Core.Path.{_≡_, refl}
+use Rattle.masks.specs.Bit.{bit, somewhere}
+use Rattle.ic3.specs.Model.{least}
+use Rattle.ic3.specs.Search.{levelOf, put, states, R, wanted, judge, round, tested, found, deeper, settled, fits, kept, react, next, run, searched}
+use Rattle.system.specs.System.{literalTrue, clauseTrue, listTrue, word, model, wrongSize, wrongCount, wrongBit, refusalOf}
+use Rattle.call.specs.Call.{wrongStores, refused, ended, called}
+use Rattle.house.specs.Text.{before, lines, digit, ahead, bytes, sum, number}
+use Rattle.house.specs.File.{inPlace, width, lengthFor, field, clauseOf, hasRoom, roomFor, withClause, entered, judged, lineTaken, readLines, said}
+use Rattle.answer.specs.Output.{letter, digits, sumByte, lineOf, one, two, four}
+use Rattle.answer.specs.Answer.{stateLines, verdictLines, callLines, roomOf1024, saidLines, answered}
+use Rattle.answer.specs.Example.{ringFile, ringAnswer}
+
+pub ring-answered : answered ringFile ≡ ringAnswer
+unfolding bit somewhere least levelOf put states R wanted judge round tested found deeper settled fits kept react next run searched
+    literalTrue clauseTrue listTrue word model wrongSize wrongCount wrongBit refusalOf wrongStores refused ended called
+    before lines digit ahead bytes sum number inPlace width lengthFor field clauseOf hasRoom roomFor withClause entered judged lineTaken readLines
+    said letter digits sumByte lineOf one two four stateLines verdictLines callLines roomOf1024 saidLines answered
+ring-answered = refl

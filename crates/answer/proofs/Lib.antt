@@ -1,0 +1,9 @@
+-- The root of the laws.
+pub mod Laying
+pub mod Lines
+pub mod Frames
+pub mod Outcomes
+pub mod Short
+pub mod Meaning
+pub mod Example
+pub mod Reading

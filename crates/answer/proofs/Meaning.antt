@@ -1,0 +1,96 @@
+-- What the answer means. Its first digit, 8 or 9, A or F, tells what the call said, and what a call says is right (demand 2). So an answer that
+-- begins with 80 shows that the text's system is safe, and one that begins with 90 that it is unsafe, with a shortest path. Assumes nothing.
+use Prim.Native.Nat.{ℕ, _≤_}
+use mathlib.Core.Bool.{false}
+use mathlib.Core.List.{List}
+use mathlib.Core.Path.{_≡_, refl, sym, ap, _∙_}
+use native.Mathlib.Omega.{arith}
+use lib.Dec.{ltb}
+use Rattle.ic3.specs.Model.{Model}
+use Rattle.ic3.specs.Demands.{Reach, Unsafe}
+use Rattle.ic3.proofs.Tests.{test}
+use Rattle.system.specs.System.{model}
+use Rattle.call.specs.Call.{Stores, Said, says-safe, says-unsafe, says-nothing, result, called}
+use Rattle.call.specs.Promise.{Right}
+use Rattle.call.proofs.Call.{called-right}
+use Rattle.house.specs.File.{Reading, file, refused, said}
+use Rattle.house.specs.File as house
+use Rattle.answer.specs.Output.{letter, digits, lineOf}
+use Rattle.answer.specs.Answer.{verdictLines, gaveUpLine, refusalLine, callLines, roomOf1024, systemLines}
+use Rattle.answer.specs.Answer.{clauseRooms, systemIn, saidLines, answered}
+use Rattle.answer.specs.Promise.{Writes, Begins, Shows-safe, Shows-unsafe, Answers}
+use Rattle.answer.proofs.Short.{answered-short}
+
+-- the first digit, by what is said
+abbrev Tells : Said → ℕ → Type 0
+Tells says-safe a = a ≡ 56
+Tells says-unsafe a = a ≡ 57
+Tells says-nothing a = 65 ≤ a
+
+refusal-tells : (a number line : ℕ) → Begins a 48 (refusalLine number line) → 65 ≤ a
+unfolding refusalLine lineOf digits letter
+refusal-tells a number line h = omega (arith, h .0)
+
+gave-up-tells : (a number questions : ℕ) → Begins a 48 (gaveUpLine number questions) → 65 ≤ a
+unfolding gaveUpLine lineOf digits letter
+gave-up-tells a number questions h = omega (arith, h .0)
+
+call-tells : (a : ℕ) (said : Said) (number questions : ℕ) (evidence : List ℕ) (after : Stores)
+    → Begins a 48 (callLines (result number said questions evidence after)) → Tells said a
+unfolding callLines verdictLines lineOf digits letter
+call-tells a says-safe number questions evidence after h = sym (h .0)
+call-tells a says-unsafe number questions evidence after h = sym (h .0)
+call-tells a says-nothing number questions evidence after h =
+    test (ltb number 5)
+    (λ e. refusal-tells a number 0 (rw (e, callLines) at h))
+    (λ e. gave-up-tells a number questions (rw (e, callLines) at h))
+
+-- 80: what is said is safe, and right
+told-safe : (M : Model) (said : Said) (evidence : List ℕ) → Tells said 56 → Right M said evidence → (k s : ℕ) → Reach M k s → M .bad s ≡ false
+told-safe M says-safe evidence t d = d .never
+told-safe M says-unsafe evidence t d = absurd (omega arith)
+told-safe M says-nothing evidence t d = absurd (omega arith)
+
+-- 90: what is said is unsafe, and right
+told-unsafe : (M : Model) (said : Said) (number questions : ℕ) (evidence : List ℕ) (after : Stores) → Tells said 57 → Right M said evidence
+    → (callLines (result number said questions evidence after) ≡ verdictLines 144 questions evidence) × Unsafe M evidence
+unfolding callLines
+told-unsafe M says-safe number questions evidence after t d = absurd (omega arith)
+told-unsafe M says-unsafe number questions evidence after t d = (refl, d)
+told-unsafe M says-nothing number questions evidence after t d = absurd (omega arith)
+
+module _ (text : List ℕ) where
+  pub answered-file : (r : Reading) → said clauseRooms text ≡ file r → answered text ≡ systemLines (systemIn r)
+  unfolding answered saidLines
+  answered-file r e = ap saidLines e
+
+  pub answered-refused : (number line : ℕ) → said clauseRooms text ≡ refused number line → answered text ≡ refusalLine number line
+  unfolding answered saidLines
+  answered-refused number line e = ap saidLines e
+
+  pub shows-safe : Begins 56 48 (answered text) → Shows-safe text
+  shows-safe h = pick (said clauseRooms text) refl
+    where
+      pick : (s : house.Said) → said clauseRooms text ≡ s → Shows-safe text
+      pick (refused number line) e = absurd (omega (arith, refusal-tells 56 number line (rw (answered-refused number line e) at h)))
+      pick (file r) e =
+          let y = systemIn r in
+          let c = called y roomOf1024 1000000 in
+          let t = call-tells 56 (c .said) _ _ _ _ (rw (answered-file r e) at h) in
+          record { reading = r; read = e; never = told-safe (model y) (c .said) (c .evidence) t (called-right y roomOf1024 1000000) }
+
+  pub shows-unsafe : Begins 57 48 (answered text) → Shows-unsafe text
+  shows-unsafe h = pick (said clauseRooms text) refl
+    where
+      pick : (s : house.Said) → said clauseRooms text ≡ s → Shows-unsafe text
+      pick (refused number line) e = absurd (omega (arith, refusal-tells 57 number line (rw (answered-refused number line e) at h)))
+      pick (file r) e =
+          let y = systemIn r in
+          let c = called y roomOf1024 1000000 in
+          let t = call-tells 57 (c .said) _ _ _ _ (rw (answered-file r e) at h) in
+          let u = told-unsafe (model y) (c .said) _ _ (c .evidence) _ t (called-right y roomOf1024 1000000) in
+          record { reading = r; read = e; questions = c .questions; path = c .evidence; lines = answered-file r e ∙ u .0; shortest = u .1 }
+
+  -- the promise, out of what was written
+  pub answers : {before : List ℕ} {r : ℕ} {after : List ℕ} → Writes 0 (answered text) before r after → Answers text before r after
+  answers w = record { writes = w; short = omega (arith, w .end, answered-short text); safe = shows-safe; unsafe = shows-unsafe }

@@ -1,0 +1,82 @@
+-- `answer::answer` meets its contract: a refusal is written as such, and of a file the system that was read is solved. Assumes nothing.
+use mathlib.Core.Path.{sym}
+use lib.Seq.{length-take-le}
+use Rattle.answer.proofs.Reading.{read-fronts, rooms-of-zeros, answers-refusal, answers-file}
+use borrow.Author.Needs.{needs}
+use Rattle.answer.proofs.answer.Statement.{statement}
+use Rattle.answer.proofs.answer.Tie as tie
+
+slice-aggregate-read : tie.Need-slice-aggregate-read
+slice-aggregate-read c = search needs
+
+slice-aggregate-read-2 : tie.Need-slice-aggregate-read-2
+slice-aggregate-read-2 c = search needs
+
+slice-aggregate-read-3 : tie.Need-slice-aggregate-read-3
+slice-aggregate-read-3 c = search needs
+
+read-requires : tie.Need-read-requires
+read-requires c κs = search needs
+
+put-refusal-requires : tie.Need-put-refusal-requires
+put-refusal-requires c κs = search needs
+
+same-length : tie.Need-same-length
+same-length c = search needs
+
+returns : tie.Need-returns
+returns c =
+    let p = c .before .before in
+    let past = p .before .before in
+    answers-refusal _ _ _ _ (past .before .before .before .before .read .ensures) rooms-of-zeros (past .if1 .taken) (p .put-refusal .ensures)
+
+array-share-prefix-start : tie.Need-array-share-prefix-start
+array-share-prefix-start c = read-fronts _ _ _ _ (c .before .before .before .before .read .ensures) .start
+
+slice-aggregate-solve : tie.Need-slice-aggregate-solve
+slice-aggregate-solve c = sym (length-take-le _ _ (read-fronts _ _ _ _ (c .before .before .before .before .before .read .ensures) .start))
+
+array-share-prefix-step : tie.Need-array-share-prefix-step
+array-share-prefix-step c = read-fronts _ _ _ _ (c .before .before .before .before .before .read .ensures) .step
+
+slice-aggregate-solve-2 : tie.Need-slice-aggregate-solve-2
+slice-aggregate-solve-2 c = sym (length-take-le _ _ (read-fronts _ _ _ _ (c .before .before .before .before .before .before .read .ensures) .step))
+
+array-share-prefix-bad : tie.Need-array-share-prefix-bad
+array-share-prefix-bad c = read-fronts _ _ _ _ (c .before .before .before .before .before .before .read .ensures) .bad
+
+slice-aggregate-solve-3 : tie.Need-slice-aggregate-solve-3
+slice-aggregate-solve-3 c = sym (length-take-le _ _ (read-fronts _ _ _ _ (c .before .before .before .before .before .before .before .read .ensures) .bad))
+
+solve-requires : tie.Need-solve-requires
+solve-requires c κs = search needs
+
+same-length-2 : tie.Need-same-length-2
+same-length-2 c = search needs
+
+returns-2 : tie.Need-returns-2
+returns-2 c =
+    let p = c .before .before in
+    let past = p .before .before .before .before .before in
+    answers-file _ _ _ _ (past .before .before .before .before .read .ensures) rooms-of-zeros (past .if1 .left) (p .solve .ensures)
+
+pub answer-spec : {M : Type 1} → statement M
+answer-spec =
+    tie.close
+    (tie.spec
+    slice-aggregate-read
+    slice-aggregate-read-2
+    slice-aggregate-read-3
+    read-requires
+    put-refusal-requires
+    same-length
+    returns
+    array-share-prefix-start
+    slice-aggregate-solve
+    array-share-prefix-step
+    slice-aggregate-solve-2
+    array-share-prefix-bad
+    slice-aggregate-solve-3
+    solve-requires
+    same-length-2
+    returns-2)

@@ -1,0 +1,59 @@
+-- The whole of `scan` as a definition: what it writes for every text.
+use Prim.Native.Nat.{ℕ, suc}
+use mathlib.Core.Bool.{true, false}
+use mathlib.Core.List.{List, [], _∷_, _++_}
+use lib.Dec.{ltb}
+use lib.ListN.{length, replicate}
+use Rattle.system.specs.System.{System}
+use Rattle.call.specs.Call.{Stores, says-safe, says-unsafe, says-nothing, Result, called}
+use Rattle.call.specs.Promise.{systemOf, stores}
+use Rattle.house.specs.File.{Rooms, Reading, Said, file, refused, said}
+use Rattle.answer.specs.Output.{lineOf, one, two, four}
+
+-- 80 (safe) or 90 (unsafe) with questions and number of evidence states, then one 81 or 91 line per state
+unfoldable pub stateLines : ℕ → List ℕ → List ℕ
+stateLines kind [] = []
+stateLines kind (s ∷ states) = lineOf (kind ∷ four s) ++ stateLines kind states
+
+unfoldable pub verdictLines : ℕ → ℕ → List ℕ → List ℕ
+verdictLines kind questions evidence = lineOf (kind ∷ (four questions ++ four (length evidence))) ++ stateLines (suc kind) evidence
+
+-- A0 with 5 or 6 (one byte) and questions (four)
+unfoldable pub gaveUpLine : ℕ → ℕ → List ℕ
+gaveUpLine number questions = lineOf (160 ∷ (one number ++ four questions))
+
+-- F0 with the refusal (one byte) and line (two bytes, 0 for a refusal of the system)
+unfoldable pub refusalLine : ℕ → ℕ → List ℕ
+refusalLine number line = lineOf (240 ∷ (one number ++ two line))
+
+-- the answer of a call
+unfoldable pub callLines : Result → List ℕ
+callLines r =
+    elim (r .said) [
+      | says-safe ↦ verdictLines 128 (r .questions) (r .evidence)
+      | says-unsafe ↦ verdictLines 144 (r .questions) (r .evidence)
+      | says-nothing ↦ elim (ltb (r .number) 5) [ true ↦ refusalLine (r .number) 0 | false ↦ gaveUpLine (r .number) (r .questions) ]
+    ]
+
+-- a room of 1,024
+unfoldable pub roomOf1024 : Stores
+roomOf1024 = stores (replicate 1024 0) (replicate 1024 0) (replicate 1026 0)
+
+-- the answer of the search for a system
+abbrev pub systemLines : System → List ℕ
+systemLines y = callLines (called y roomOf1024 1000000)
+
+-- clause stores that hold all clause lines of a file
+abbrev pub clauseRooms : Rooms
+clauseRooms = record { start = 2048; step = 2048; bad = 2048 }
+
+abbrev pub systemIn : Reading → System
+systemIn r = systemOf (r .n) (r .start) (r .step) (r .bad)
+
+unfoldable pub saidLines : Said → List ℕ
+saidLines (file r) = systemLines (systemIn r)
+saidLines (refused number line) = refusalLine number line
+
+-- THE ANSWER: reader, then search, then frames
+unfoldable pub answered : List ℕ → List ℕ
+answered text = saidLines (said clauseRooms text)

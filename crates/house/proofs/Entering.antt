@@ -1,0 +1,133 @@
+-- What a line says, entered. A clause goes behind the list of its kind, and the other two lists stay; the room that the code finds is the
+-- definition's. The size and the count of clause lines change no list. Assumes nothing.
+use Prim.Native.Nat.{ℕ, _+_, _≤_, _<_}
+use mathlib.Core.Bool.{Bool, true, false, _&&_}
+use mathlib.Core.List.{List, [], _∷_}
+use mathlib.Core.Path.{_≡_, refl, ap}
+use native.Mathlib.Numerals.{add-one}
+use native.Mathlib.Omega.{arith}
+use borrow.Author.Tests.{ltb-true, eq-eqb, ne-eqb, le-ltb, lt-ltb}
+use lib.Dec.{ltb}
+use Rattle.house.specs.File.{on, refuse, roomFor, withClause}
+use Rattle.house.specs.Promise.{Lists, lists, roomsOf}
+use Rattle.house.specs.Lent.{takenAs, Lies, PutAs, Lie, readingOf, oneMore, Same, Turns, Enters}
+use Rattle.house.specs.declared.Line.{Line}
+use Rattle.house.specs.declared.Line.the-variants.{Size, Clause, Count, Wrong}
+use Rattle.house.specs.declared.Place.{Place}
+use Rattle.house.specs.declared.Turn.{Turn}
+use Rattle.house.specs.declared.Turn.the-variants.{On, Refused}
+use Rattle.house.proofs.Lying.{put-room}
+
+-- the stores are as they were
+pub same-refl : (l : Lists) → Same l l
+same-refl l = record { start = refl; step = refl; bad = refl }
+
+-- ---- the code's turn
+module _ (room : Bool) (stage : ℕ) (p : Place) (start step bad : ℕ) where
+  pub more-last : 1024 ≤ p .clauses → Refused 12 ≡ oneMore room stage p start step bad
+  unfolding oneMore
+  more-last h = rw (le-ltb (p .clauses) 1024 h, oneMore)
+
+  pub more-on : p .clauses < 1024 → room ≡ true
+      → On (record { stage = stage; n = p .n; clauses = p .clauses + 1; start = start; step = step; bad = bad }) ≡ oneMore room stage p start step bad
+  unfolding oneMore
+  more-on h e = rw (e, lt-ltb (p .clauses) 1024 h, oneMore)
+
+  pub more-full : p .clauses < 1024 → room ≡ false → Refused 12 ≡ oneMore room stage p start step bad
+  unfolding oneMore
+  more-full h e = rw (e, lt-ltb (p .clauses) 1024 h, oneMore)
+
+-- ---- a clause
+module _ (p : Place) (l : Lists) (kind ones zeros : ℕ) where
+  -- the stores and counts after it, if there was room
+  record Grows (room : Bool) (stage start step bad : ℕ) (after : Lists) : Type 0 where
+    found : roomFor (roomsOf l) (readingOf p l) kind ≡ room
+    same : Same l after
+    lie : room ≡ true → Lies start (after .start) × Lies step (after .step) × Lies bad (after .bad)
+    reading : room ≡ true → readingOf (record { stage = stage; n = p .n; clauses = p .clauses + 1; start = start; step = step; bad = bad }) after
+        ≡ withClause (readingOf p l) kind (ones ∷ (zeros ∷ []))
+
+  clause-put : (room : Bool) (stage start step bad : ℕ) (after : Lists) → Grows room stage start step bad after
+      → Enters p (Clause kind ones zeros) l (oneMore room stage p start step bad) after
+  unfolding oneMore
+  clause-put room stage start step bad after g = rw (g .found, takenAs) (pick (ltb (p .clauses) 1024) room refl refl)
+    where
+      pick : (few has : Bool) → ltb (p .clauses) 1024 ≡ few → room ≡ has
+          → Turns (elim (few && has) [ true ↦ on (withClause (readingOf p l) kind (ones ∷ (zeros ∷ []))) | false ↦ refuse 12 ]) l
+          (elim (few && has) [
+            | true ↦ On (record { stage = stage; n = p .n; clauses = p .clauses + 1; start = start; step = step; bad = bad })
+            | false ↦ Refused 12
+          ])
+          after
+      pick true true t e =
+          let w = g .lie e in
+          record {
+            same = g .same;
+            leads = ap on (g .reading e);
+            lies = record { most = omega (arith, ltb-true (p .clauses) 1024 t); start = w .0; step = w .1; bad = w .2 };
+          }
+      pick true false t e = record { same = g .same; leads = refl; lies = tt }
+      pick false has t e = record { same = g .same; leads = refl; lies = tt }
+
+-- each kind's list
+module _ (p : Place) (start step bad : List ℕ) (w : Lie p (lists start step bad)) (kind ones zeros : ℕ) (room : Bool) where
+  abbrev Grown : Turn → List ℕ → List ℕ → List ℕ → Type 0
+  Grown t start' step' bad' = Enters p (Clause kind ones zeros) (lists start step bad) t (lists start' step' bad')
+
+  pub start-put : (start' : List ℕ) → kind ≡ 1 → PutAs start (p .start) ones zeros room start'
+      → Grown (oneMore room 1 p (p .start + 2) (p .step) (p .bad)) start' step bad
+  unfolding roomFor withClause
+  start-put start' e g =
+      clause-put p (lists start step bad) kind ones zeros room 1 (p .start + 2) (p .step) (p .bad) (lists start' step bad)
+      (record {
+        found = rw e (put-room start (p .start) ones zeros room start' (w .start) g);
+        same = record { start = g .same; step = refl; bad = refl };
+        lie = λ t. (g .more t .0, w .step, w .bad);
+        reading = λ t. rw (e, g .more t .1, add-one);
+      })
+
+  pub step-put : (step' : List ℕ) → kind ≡ 2 → PutAs step (p .step) ones zeros room step'
+      → Grown (oneMore room 2 p (p .start) (p .step + 2) (p .bad)) start step' bad
+  unfolding roomFor withClause
+  step-put step' e g =
+      clause-put p (lists start step bad) kind ones zeros room 2 (p .start) (p .step + 2) (p .bad) (lists start step' bad)
+      (record {
+        found = rw e (put-room step (p .step) ones zeros room step' (w .step) g);
+        same = record { start = refl; step = g .same; bad = refl };
+        lie = λ t. (w .start, g .more t .0, w .bad);
+        reading = λ t. rw (e, g .more t .1, add-one);
+      })
+
+  pub bad-put : (bad' : List ℕ) → (kind ≡ 1 → ⊥) → (kind ≡ 2 → ⊥) → PutAs bad (p .bad) ones zeros room bad'
+      → Grown (oneMore room 3 p (p .start) (p .step) (p .bad + 2)) start step bad'
+  unfolding roomFor withClause
+  bad-put bad' e f g =
+      clause-put p (lists start step bad) kind ones zeros room 3 (p .start) (p .step) (p .bad + 2) (lists start step bad')
+      (record {
+        found = rw (ne-eqb kind 1 e, ne-eqb kind 2 f, roomFor) (put-room bad (p .bad) ones zeros room bad' (w .bad) g);
+        same = record { start = refl; step = refl; bad = g .same };
+        lie = λ t. (w .start, w .step, g .more t .0);
+        reading = λ t. rw (ne-eqb kind 1 e, ne-eqb kind 2 f, g .more t .1, add-one, withClause);
+      })
+
+-- ---- what is no clause
+module _ (p : Place) (l : Lists) (w : Lie p l) (said : Line) where
+  pub size-read : (n : ℕ) → said ≡ Size n
+      → Enters p said l (On (record { stage = 1; n = n; clauses = p .clauses; start = p .start; step = p .step; bad = p .bad })) l
+  size-read n e =
+      rw e (record { same = same-refl l; leads = refl; lies = record { most = w .most; start = w .start; step = w .step; bad = w .bad } })
+
+  pub count-right : (count : ℕ) → said ≡ Count count → count ≡ p .clauses
+      → Enters p said l (On (record { stage = 16; n = p .n; clauses = p .clauses; start = p .start; step = p .step; bad = p .bad })) l
+  count-right count e f =
+      rw e (record {
+        same = same-refl l;
+        leads = rw (eq-eqb count (p .clauses) f, takenAs);
+        lies = record { most = w .most; start = w .start; step = w .step; bad = w .bad };
+      })
+
+  pub count-wrong : (count : ℕ) → said ≡ Count count → (count ≡ p .clauses → ⊥) → Enters p said l (Refused 13) l
+  count-wrong count e f = rw e (record { same = same-refl l; leads = rw (ne-eqb count (p .clauses) f, takenAs); lies = tt })
+
+  pub line-wrong : (number : ℕ) → said ≡ Wrong number → Enters p said l (Refused number) l
+  line-wrong number e = rw e (record { same = same-refl l; leads = refl; lies = tt })

@@ -1,0 +1,14 @@
+-- The root of the laws.
+pub mod Digits
+pub mod Placing
+pub mod Lines
+pub mod Frames
+pub mod Malformed
+pub mod Numbers
+pub mod Judging
+pub mod Saying
+pub mod Lying
+pub mod Entering
+pub mod Numbered
+pub mod Taking
+pub mod Reading

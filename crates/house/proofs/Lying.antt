@@ -1,0 +1,68 @@
+-- A list in front of a store: all behind it is zero. Two masks that are written behind it, where there is room, make it a list of two masks more.
+-- Assumes nothing.
+use Prim.Native.Nat.{ℕ, suc, _+_, _-_, _≤_, _<_}
+use mathlib.Core.Bool.{Bool, true, false}
+use mathlib.Core.List.{List, [], _∷_, _++_, append-assoc}
+use mathlib.Core.Path.{_≡_, refl, sym, ap, _∙_}
+use native.Mathlib.Omega.{arith}
+use borrow.Author.Tests.{le-leb, lt-leb}
+use lib.ListN.{length, take, set, replicate, length-append, length-set, length-replicate}
+use lib.Seq.{length-take-le, append-snoc, set-at, take-at}
+use Rattle.ic3.proofs.Tests.{clash}
+use Rattle.call.specs.Call.{over}
+use Rattle.house.specs.File.{hasRoom}
+use Rattle.house.specs.Lent.{Lies, PutAs}
+
+-- a list with zeros behind it lies in the store
+module _ (front : List ℕ) (k count : ℕ) (store : List ℕ) (e : store ≡ front ++ replicate k 0) (l : length front ≡ count) where
+  lies-take : take count store ≡ front
+  lies-take = rw e (take-at front (replicate k 0) count l)
+
+  lies : Lies count store
+  unfolding over
+  lies =
+      let n : length store ≡ count + k = ap length e ∙ (rw (length-append, length-replicate, l)) in
+      let z : length store - count ≡ k = omega arith in
+      record { fits = omega arith; rest = rw (lies-take, l, z) e }
+
+-- the empty list
+pub lies-none : (n : ℕ) (store : List ℕ) → store ≡ replicate n 0 → Lies 0 store
+lies-none n store e = lies [] n 0 store e refl
+
+-- two masks behind a front
+two-more : (front : List ℕ) (k count ones zeros : ℕ) → length front ≡ count
+    → set (set (front ++ (0 ∷ (0 ∷ replicate k 0))) count ones) (count + 1) zeros ≡ (front ++ (ones ∷ (zeros ∷ []))) ++ replicate k 0
+two-more front k count ones zeros l =
+    let m : length (front ++ (ones ∷ [])) ≡ count + 1 = rw (length-append, l) in
+    rw (set-at front 0 (0 ∷ replicate k 0) ones count l, ← append-snoc front ones (0 ∷ replicate k 0))
+    (rw (set-at (front ++ (ones ∷ [])) 0 (replicate k 0) zeros (count + 1) m, append-assoc, append-assoc))
+
+module _ (store : List ℕ) (count ones zeros : ℕ) where
+  -- no room
+  pub put-not : length store < count + 2 → PutAs store count ones zeros false store
+  put-not h = record { room = sym (lt-leb (count + 2) (length store) h); same = refl; more = λ e. clash e refl }
+
+  -- the two masks are written
+  pub put-done : Lies count store → count + 2 ≤ length store → PutAs store count ones zeros true (set (set store count ones) (count + 1) zeros)
+  unfolding over
+  put-done w h =
+      let after = set (set store count ones) (count + 1) zeros in
+      let front = take count store ++ (ones ∷ (zeros ∷ [])) in
+      let k = length store - (count + 2) in
+      let l : length (take count store) ≡ count = length-take-le count store (w .fits) in
+      let z : length store - count ≡ suc (suc k) = omega arith in
+      let s : store ≡ take count store ++ (0 ∷ (0 ∷ replicate k 0)) = w .rest ∙ rw (l, z) in
+      let e : after ≡ front ++ replicate k 0 =
+      ap (λ x. set (set x count ones) (count + 1) zeros) s ∙ two-more (take count store) k count ones zeros l in
+      let m : length front ≡ count + 2 = rw (length-append, l) in
+      record {
+        room = sym (le-leb (count + 2) (length store) h);
+        same = simp length-set;
+        more = λ _. (lies front k (count + 2) after e m, lies-take front k (count + 2) after e m);
+      }
+
+-- the definition asks for the same room
+pub put-room : (store : List ℕ) (count ones zeros : ℕ) (done : Bool) (store' : List ℕ) → Lies count store → PutAs store count ones zeros done store'
+    → hasRoom (length store) (take count store) ≡ done
+unfolding hasRoom
+put-room store count ones zeros done store' w p = rw (length-take-le count store (w .fits)) (sym (p .room))

@@ -1,0 +1,85 @@
+-- `house::number_at` meets its contract. The loop's invariant: the number so far is that of the first j bytes. With at most seven of them below 256
+-- there is room for one more. The measure is what is left of them. Assumes nothing.
+use Prim.Native.Nat.{_-_, _≤_}
+use mathlib.Core.Path.{_≡_, refl, ap, _∙_}
+use native.Mathlib.Omega.{arith}
+use borrow.Author.Needs.{needs}
+use Rattle.house.specs.Text.{number}
+use Rattle.house.specs.Lent.{frameAt}
+use Rattle.house.proofs.Numbers.{number-more, number-seven}
+use Rattle.house.proofs.number_at.Statement.{statement}
+use Rattle.house.proofs.number_at.Tie as tie
+
+abbrev Inv-loop : tie.InvT-loop
+Inv-loop text at count high₀ j₀ high j = (j ≤ count) × (high ≡ number 0 (frameAt text at j))
+
+abbrev μ-loop : tie.MeasureT-loop
+μ-loop text at count high₀ j₀ high j = count - j
+
+loop-holds : tie.Need-loop-holds Inv-loop μ-loop
+unfolding number frameAt
+loop-holds c = (search needs, refl)
+
+mul-high : tie.Need-mul-high Inv-loop μ-loop
+mul-high c =
+    let at-loop = c .before in
+    let small = at-loop .before .before .pre .small in
+    record { fits = omega (arith, number-seven _ _ _ (omega arith) (λ k l. small k (omega arith)) (at-loop .loop .inv .1)) }
+
+mul-byte-at : tie.Need-mul-byte-at Inv-loop μ-loop
+mul-byte-at c = search needs
+
+add-byte-at : tie.Need-add-byte-at Inv-loop μ-loop
+add-byte-at c = search needs
+
+byte-at-requires : tie.Need-byte-at-requires Inv-loop μ-loop
+byte-at-requires c κs = search needs
+
+cast-high : tie.Need-cast-high Inv-loop μ-loop
+cast-high c = search needs
+
+add-high : tie.Need-add-high Inv-loop μ-loop
+add-high c =
+    let at-loop = c .before .before in
+    let small = at-loop .before .before .pre .small in
+    record {
+      fits = omega (
+        arith,
+        number-seven _ _ _ (omega arith) (λ k l. small k (omega arith)) (at-loop .loop .inv .1),
+        small (at-loop .loop .j) (omega arith),
+        c .byte-at .ensures,
+      );
+    }
+
+add-j : tie.Need-add-j Inv-loop μ-loop
+add-j c = search needs
+
+loop-less : tie.Need-loop-less Inv-loop μ-loop
+loop-less c = search needs
+
+loop-again : tie.Need-loop-again Inv-loop μ-loop
+loop-again c = (omega arith, number-more _ _ _ (c .before .before .loop .inv .1) (c .byte-at .ensures))
+
+returns : tie.Need-returns Inv-loop μ-loop
+returns c =
+    let args = c .before .before .before .args in
+    let all : c .before .loop .j ≡ args .count = omega arith in
+    c .before .loop .inv .1 ∙ ap (λ x. number 0 (frameAt (args .text .now) (args .at) x)) all
+
+pub number-at-spec : {M : Type 1} → statement M
+number-at-spec =
+    tie.close
+    (tie.spec
+    Inv-loop
+    μ-loop
+    loop-holds
+    mul-high
+    mul-byte-at
+    add-byte-at
+    byte-at-requires
+    cast-high
+    add-high
+    add-j
+    loop-less
+    loop-again
+    returns)

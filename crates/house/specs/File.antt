@@ -1,0 +1,123 @@
+-- House files of document 01: what a text says, or the first refusal and its line.
+use Prim.Native.Nat.{ℕ, zero, suc, _+_, _*_, _%_}
+use mathlib.Core.Bool.{Bool, true, false, _&&_, _||_}
+use mathlib.Core.List.{List, [], _∷_, _++_}
+use mathlib.Core.Option.{Option, none, some}
+use lib.Dec.{eqb, ltb, leb}
+use lib.ListN.{length, getD, take, drop}
+use Rattle.house.specs.Text.{lines, bytes, sum, number}
+
+-- the lengths of the lent stores of start, step and bad, in masks
+pub record Rooms : Type 0 where
+  pub start : ℕ
+  pub step : ℕ
+  pub bad : ℕ
+
+-- What was read so far. The stage is 0 before the 00 line, 1 behind it and behind a 01 line, 2 and 3 behind a 02 and a 03 line, 16 behind the 0F
+-- line. `clauses` counts the clause lines.
+pub record Reading : Type 0 where
+  pub stage : ℕ
+  pub n : ℕ
+  pub clauses : ℕ
+  pub start : List ℕ
+  pub step : List ℕ
+  pub bad : List ℕ
+
+-- nothing was read
+abbrev pub nothing : Reading
+nothing = record { stage = 0; n = 0; clauses = 0; start = []; step = []; bad = [] }
+
+-- what a line leads to: reading goes on, or a refusal
+pub data Taken : Type 0 where
+  on : Reading → Taken
+  refuse : ℕ → Taken
+
+-- a kind is known and in its place: one 00 line, then 01 lines, 02 lines, 03 lines, one 0F line, nothing after
+unfoldable pub inPlace : ℕ → ℕ → Bool
+inPlace zero kind = eqb kind 0
+inPlace (suc s) kind = leb (suc s) kind && ((leb 1 kind && leb kind 3) || eqb kind 15)
+
+-- how many bytes a mask of this kind has: later bits stand in a step alone
+unfoldable pub width : ℕ → ℕ
+width kind = elim (eqb kind 2) [ true ↦ 8 | false ↦ 4 ]
+
+-- how many bytes a frame of this kind has, with its kind and its sum byte
+unfoldable pub lengthFor : ℕ → ℕ
+lengthFor kind = elim (eqb kind 0) [ true ↦ 3 | false ↦ elim (eqb kind 15) [ true ↦ 4 | false ↦ 2 + 2 * width kind ] ]
+
+-- the number in `count` bytes of a frame, from index i on
+unfoldable pub field : List ℕ → ℕ → ℕ → ℕ
+field frame i count = number 0 (take count (drop i frame))
+
+-- the clause of a frame: two masks
+unfoldable pub clauseOf : ℕ → List ℕ → List ℕ
+clauseOf kind frame = field frame 1 (width kind) ∷ (field frame (1 + width kind) (width kind) ∷ [])
+
+-- room for one clause more
+unfoldable pub hasRoom : ℕ → List ℕ → Bool
+hasRoom room list = leb (length list + 2) room
+
+-- the room of a kind's list, and the reading with one clause more in it
+unfoldable pub roomFor : Rooms → Reading → ℕ → Bool
+roomFor rooms r kind =
+    elim (eqb kind 1) [
+      | true ↦ hasRoom (rooms .start) (r .start)
+      | false ↦ elim (eqb kind 2) [ true ↦ hasRoom (rooms .step) (r .step) | false ↦ hasRoom (rooms .bad) (r .bad) ]
+    ]
+
+unfoldable pub withClause : Reading → ℕ → List ℕ → Reading
+withClause r kind clause =
+    elim (eqb kind 1) [
+      | true ↦ record { stage = 1; n = r .n; clauses = suc (r .clauses); start = r .start ++ clause; step = r .step; bad = r .bad }
+      | false ↦ elim (eqb kind 2) [
+        | true ↦ record { stage = 2; n = r .n; clauses = suc (r .clauses); start = r .start; step = r .step ++ clause; bad = r .bad }
+        | false ↦ record { stage = 3; n = r .n; clauses = suc (r .clauses); start = r .start; step = r .step; bad = r .bad ++ clause }
+      ]
+    ]
+
+-- A frame of a kind that is in place, of the right length. Refusal 12: clause line number 1,025, or no room left; 13: count wrong.
+unfoldable pub entered : Rooms → Reading → ℕ → List ℕ → Taken
+entered rooms r kind frame =
+    elim (eqb kind 0) [
+      | true ↦ on (record { stage = 1; n = getD frame 1 0; clauses = r .clauses; start = r .start; step = r .step; bad = r .bad })
+      | false ↦ elim (eqb kind 15) [
+        | true ↦ elim (eqb (field frame 1 2) (r .clauses)) [
+          | true ↦ on (record { stage = 16; n = r .n; clauses = r .clauses; start = r .start; step = r .step; bad = r .bad })
+          | false ↦ refuse 13
+        ]
+        | false ↦ elim (ltb (r .clauses) 1024 && roomFor rooms r kind) [ true ↦ on (withClause r kind (clauseOf kind frame)) | false ↦ refuse 12 ]
+      ]
+    ]
+
+-- A frame. Refusal 9: sum wrong; 10: kind unknown or out of place; 11: length wrong for the kind.
+unfoldable pub judged : Rooms → Reading → List ℕ → Taken
+judged rooms r frame =
+    elim (eqb (sum frame % 256) 0) [
+      | true ↦ elim (inPlace (r .stage) (getD frame 0 0)) [
+        | true ↦ elim (eqb (length frame) (lengthFor (getD frame 0 0))) [ true ↦ entered rooms r (getD frame 0 0) frame | false ↦ refuse 11 ]
+        | false ↦ refuse 10
+      ]
+      | false ↦ refuse 9
+    ]
+
+-- A line. Refusal 8: not pairs of 0-9 A-F with a line feed, empty, or over 36 digits.
+unfoldable pub lineTaken : Rooms → Reading → List ℕ → Taken
+lineTaken rooms r line =
+    elim (bytes line) [
+      | none ↦ refuse 8
+      | some frame ↦ elim (eqb (length frame) 0 || ltb 18 (length frame)) [ true ↦ refuse 8 | false ↦ judged rooms r frame ]
+    ]
+
+-- what a text says: everything that was read, or the refusal and its line
+pub data Said : Type 0 where
+  file : Reading → Said
+  refused : ℕ → ℕ → Said
+
+-- The lines from line k on. A file that stops before 0F is refused with 10 at the line after its last.
+unfoldable pub readLines : Rooms → List (List ℕ) → ℕ → Reading → Said
+readLines rooms [] k r = elim (eqb (r .stage) 16) [ true ↦ file r | false ↦ refused 10 k ]
+readLines rooms (line ∷ rest) k r = elim (lineTaken rooms r line) [ on r' ↦ readLines rooms rest (suc k) r' | refuse number ↦ refused number k ]
+
+-- THE READER
+unfoldable pub said : Rooms → List ℕ → Said
+said rooms text = readLines rooms (lines text) 1 nothing

@@ -1,0 +1,139 @@
+-- A text read by index, and what was read out of the code's record and the three lent stores. Each list is the front of its store.
+use Prim.Native.Nat.{ℕ, zero, suc, _+_, _*_, _≤_, _<_}
+use mathlib.Core.Bool.{Bool, true, false, _&&_}
+use mathlib.Core.List.{List, [], _∷_, _++_}
+use mathlib.Core.Option.{some}
+use mathlib.Core.Path.{_≡_}
+use lib.Dec.{eqb, ltb, leb}
+use lib.ListN.{length, getD, take, drop}
+use Rattle.call.specs.Call.{over}
+use Rattle.house.specs.Text.{lines, digit, bytes}
+use Rattle.house.specs.File.{Rooms, Reading, Taken, on, refuse, roomFor, withClause, lineTaken, said}
+use Rattle.house.specs.Promise.{Lists, roomsOf, resultOf}
+use Rattle.house.specs.declared.House.{House}
+use Rattle.house.specs.declared.Line.{Line}
+use Rattle.house.specs.declared.Line.the-variants.{Size, Clause, Count, Wrong}
+use Rattle.house.specs.declared.Place.{Place}
+use Rattle.house.specs.declared.Turn.{Turn}
+use Rattle.house.specs.declared.Turn.the-variants.{On, Refused}
+
+-- ---- a text by index
+-- the line that starts at index i has `len` bytes
+pub record LineAt (text : List ℕ) (i len : ℕ) : Type 0 where
+  pub filled : 1 ≤ len
+  pub within : i + len ≤ length text
+  pub first : lines (drop i text) ≡ take len (drop i text) ∷ lines (drop (i + len) text)
+
+-- an index of a text, or its end
+pub record Within (text : List ℕ) (i : ℕ) : Type 0 where
+  pub within : i ≤ length text
+
+-- the byte that the pair of digits at index i makes
+unfoldable pub byteAt : List ℕ → ℕ → ℕ
+byteAt text i = 16 * digit (getD text i 0) + digit (getD text (i + 1) 0)
+
+-- the `count` bytes of a frame from index i on
+unfoldable pub frameAt : List ℕ → ℕ → ℕ → List ℕ
+frameAt text i zero = []
+frameAt text i (suc count) = byteAt text i ∷ frameAt text (i + 2) count
+
+-- at most eight bytes from index i on, each below 256: their number fits 64 bits
+pub record NumberAt (text : List ℕ) (i count : ℕ) : Type 0 where
+  pub most : count ≤ 8
+  pub within : i + 2 * count ≤ length text
+  pub small : (j : ℕ) → j < count → byteAt text (i + 2 * j) < 256
+
+-- the line of `len` bytes at index i makes a frame of `count` bytes; with 0 of them it is refused with 8
+pub record FrameAt (text : List ℕ) (i len count : ℕ) : Type 0 where
+  pub most : count ≤ 18
+  pub within : 2 * count ≤ len
+  pub small : (j : ℕ) → j < count → byteAt text (i + 2 * j) < 256
+  pub frame : 0 < count → bytes (take len (drop i text)) ≡ some (frameAt text i count)
+  pub malformed : count ≡ 0 → (rooms : Rooms) (r : Reading) → lineTaken rooms r (take len (drop i text)) ≡ refuse 8
+
+-- ---- what a line says
+-- where it leads; a clause and the count of the 0F line are judged by what was read
+abbrev pub takenAs : Rooms → Reading → Line → Taken
+takenAs rooms r (Size n) = on (record { stage = 1; n = n; clauses = r .clauses; start = r .start; step = r .step; bad = r .bad })
+takenAs rooms r (Clause kind ones zeros) =
+    elim (ltb (r .clauses) 1024 && roomFor rooms r kind) [ true ↦ on (withClause r kind (ones ∷ (zeros ∷ []))) | false ↦ refuse 12 ]
+takenAs rooms r (Count count) =
+    elim (eqb count (r .clauses)) [
+      | true ↦ on (record { stage = 16; n = r .n; clauses = r .clauses; start = r .start; step = r .step; bad = r .bad })
+      | false ↦ refuse 13
+    ]
+takenAs rooms r (Wrong number) = refuse number
+
+-- the line says this, whatever was read, if the stage is the one given
+unfoldable pub Says : List ℕ → ℕ → Line → Type 0
+Says line stage said = (rooms : Rooms) (r : Reading) → r .stage ≡ stage → lineTaken rooms r line ≡ takenAs rooms r said
+
+-- ---- what was read
+-- the first `count` numbers of a store are a list, and all behind it is zero
+pub record Lies (count : ℕ) (store : List ℕ) : Type 0 where
+  pub fits : count ≤ length store
+  pub rest : store ≡ over (take count store) store
+
+-- two masks more, if there is room
+pub record PutAs (store : List ℕ) (count ones zeros : ℕ) (done : Bool) (store' : List ℕ) : Type 0 where
+  pub room : done ≡ leb (count + 2) (length store)
+  pub same : length store' ≡ length store
+  pub more : done ≡ true → (Lies (count + 2) store') × (take (count + 2) store' ≡ take count store ++ (ones ∷ (zeros ∷ [])))
+
+pub record Lie (p : Place) (l : Lists) : Type 0 where
+  pub most : p .clauses ≤ 1024
+  pub start : Lies (p .start) (l .start)
+  pub step : Lies (p .step) (l .step)
+  pub bad : Lies (p .bad) (l .bad)
+
+abbrev pub readingOf : Place → Lists → Reading
+readingOf p l =
+    record {
+      stage = p .stage;
+      n = p .n;
+      clauses = p .clauses;
+      start = take (p .start) (l .start);
+      step = take (p .step) (l .step);
+      bad = take (p .bad) (l .bad);
+    }
+
+-- a clause more, with these counts of masks; refusal 12 as in the definition
+unfoldable pub oneMore : Bool → ℕ → Place → ℕ → ℕ → ℕ → Turn
+oneMore room stage p start step bad =
+    elim (ltb (p .clauses) 1024 && room) [
+      | true ↦ On (record { stage = stage; n = p .n; clauses = p .clauses + 1; start = start; step = step; bad = bad })
+      | false ↦ Refused 12
+    ]
+
+abbrev pub takenOf : Turn → Lists → Taken
+takenOf (On p) l = on (readingOf p l)
+takenOf (Refused number) l = refuse number
+
+abbrev pub Stays : Turn → Lists → Type 0
+Stays (On p) l = Lie p l
+Stays (Refused number) l = Unit {0}
+
+-- the stores are as long as they were
+pub record Same (before after : Lists) : Type 0 where
+  pub start : length (after .start) ≡ length (before .start)
+  pub step : length (after .step) ≡ length (before .step)
+  pub bad : length (after .bad) ≡ length (before .bad)
+
+-- a turn: reading went on to where the definition goes, or was refused as there
+pub record Turns (taken : Taken) (before : Lists) (t : Turn) (after : Lists) : Type 0 where
+  pub same : Same before after
+  pub leads : takenOf t after ≡ taken
+  pub lies : Stays t after
+
+-- what a line says was entered; a line was taken
+abbrev pub Enters : Place → Line → Lists → Turn → Lists → Type 0
+Enters p said before t after = Turns (takenAs (roomsOf before) (readingOf p before) said) before t after
+
+abbrev pub Takes : Place → List ℕ → Lists → Turn → Lists → Type 0
+Takes p line before t after = Turns (lineTaken (roomsOf before) (readingOf p before) line) before t after
+
+-- the lines of a text were taken: the answer is the definition's, and the lists lie in the stores unless a line was refused
+pub record Took (text : List ℕ) (before : Lists) (house : House) (after : Lists) : Type 0 where
+  pub same : Same before after
+  pub answer : house ≡ resultOf before (said (roomsOf before) text) .house
+  pub lists : house .number ≡ 0 → after ≡ resultOf before (said (roomsOf before) text) .after

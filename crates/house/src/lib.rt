@@ -1,0 +1,423 @@
+// House files: a text is read into three lent clause stores, a line at a time. A line is parsed by itself; what it says is then entered.
+ghost use mathlib.Core.Path.{_≡_};
+ghost use mathlib.Core.List.{[]};
+ghost use Prim.Native.Nat.{_+_, _*_, _≤_, _<_};
+ghost use lib.ListN.{length, take, drop};
+ghost use Rattle.house.specs.Text.{digit, sum, number};
+ghost use Rattle.house.specs.File.{inPlace, width, lengthFor};
+ghost use Rattle.house.specs.Promise.{lists, filled, Reads};
+ghost use Rattle.house.specs.Lent.{LineAt, Within, byteAt, frameAt, NumberAt, FrameAt, Says, Lies, PutAs, Lie, oneMore, Enters, Takes, Took};
+ghost use Rattle.house.specs.declared.Line.the-variants.{Clause};
+
+// With the number 0, n and the counts of masks; with a refusal, its line, and all else 0.
+pub struct House {
+    pub number: u32,
+    pub line: usize,
+    pub n: u32,
+    pub start: usize,
+    pub step: usize,
+    pub bad: usize,
+}
+
+// What a line says by itself: the size, a clause, the count of clause lines, or what is wrong with it.
+enum Line {
+    Size(u32),
+    Clause { kind: u32, ones: u64, zeros: u64 },
+    Count(u32),
+    Wrong(u32),
+}
+
+// What was read so far: the stage, n, the count of clause lines, and each list's count of masks.
+struct Place {
+    stage: u32,
+    n: u32,
+    clauses: u32,
+    start: usize,
+    step: usize,
+    bad: usize,
+}
+
+// Reading goes on, or a refusal.
+enum Turn {
+    On(Place),
+    Refused(u32),
+}
+
+// ---- a line by itself
+
+// The value of a digit, 16 if it is none.
+fn digit_value(c: u8) -> u32
+    ensures { λ r. ⌜ r ≡ digit c ⌝ }
+{
+    if 48 <= c && c <= 57 {
+        return c as u32 - 48;
+    }
+    if 65 <= c && c <= 70 {
+        return c as u32 - 55;
+    }
+    16
+}
+
+// How many bytes the line at this index has, with its line feed.
+fn line_length(text: &[u8], at: usize) -> usize
+    requires { ⌜ at < length (now text) ⌝ }
+    ensures { λ r. ⌜ LineAt (now (text .entry)) at r ⌝ }
+{
+    let mut len = 1;
+    while at + len < text.len() {
+        if text[at + len - 1] == 10 {
+            return len;
+        }
+        len += 1;
+    }
+    len
+}
+
+// The byte that two digits make.
+fn byte_at(text: &[u8], at: usize) -> u32
+    requires { ⌜ at + 1 < length (now text) ⌝ }
+    ensures { λ r. ⌜ r ≡ byteAt (now (text .entry)) at ⌝ }
+{
+    16 * digit_value(text[at]) + digit_value(text[at + 1])
+}
+
+// How many bytes the frame of a line has, 0 if the line is malformed: not pairs of digits with a line feed, empty, or over 36 digits.
+fn frame_length(text: &[u8], at: usize, len: usize) -> usize
+    requires { ⌜ LineAt (now text) at len ⌝ }
+    ensures { λ r. ⌜ FrameAt (now (text .entry)) at len r ⌝ }
+{
+    if 37 < len {
+        return 0;
+    }
+    if len % 2 == 0 {
+        return 0;
+    }
+    if text[at + len - 1] != 10 {
+        return 0;
+    }
+    let mut j = 0;
+    while j + 1 < len {
+        if digit_value(text[at + j]) == 16 {
+            return 0;
+        }
+        j += 1;
+    }
+    len / 2
+}
+
+// The sum of a frame's bytes.
+fn sum_of(text: &[u8], at: usize, count: usize) -> u32
+    requires { ⌜ (count ≤ 18) × (at + 2 * count ≤ length (now text)) ⌝ }
+    ensures { λ r. ⌜ r ≡ sum (frameAt (now (text .entry)) at count) ⌝ }
+{
+    let mut total = 0;
+    let mut j = 0;
+    while j < count {
+        total += byte_at(text, at + 2 * j);
+        j += 1;
+    }
+    total
+}
+
+// A number of at most eight bytes, the high byte first.
+fn number_at(text: &[u8], at: usize, count: usize) -> u64
+    requires { ⌜ NumberAt (now text) at count ⌝ }
+    ensures { λ r. ⌜ r ≡ number 0 (frameAt (now (text .entry)) at count) ⌝ }
+{
+    let mut high = 0;
+    let mut j = 0;
+    while j < count {
+        high = 256 * high + byte_at(text, at + 2 * j) as u64;
+        j += 1;
+    }
+    high
+}
+
+// Whether a kind is known and in its place.
+fn in_place(stage: u32, kind: u32) -> bool
+    ensures { λ r. ⌜ r ≡ inPlace stage kind ⌝ }
+{
+    if stage == 0 {
+        return kind == 0;
+    }
+    if kind < stage {
+        return false;
+    }
+    if 1 <= kind && kind <= 3 {
+        return true;
+    }
+    kind == 15
+}
+
+// How many bytes a mask of this kind has.
+fn mask_width(kind: u32) -> usize
+    ensures { λ r. ⌜ r ≡ width kind ⌝ }
+{
+    if kind == 2 { 8 } else { 4 }
+}
+
+// How many bytes a frame of this kind has.
+fn length_for(kind: u32) -> usize
+    ensures { λ r. ⌜ r ≡ lengthFor kind ⌝ }
+{
+    if kind == 0 {
+        return 3;
+    }
+    if kind == 15 {
+        return 4;
+    }
+    2 + 2 * mask_width(kind)
+}
+
+// What the line of `len` bytes at this index says.
+fn parse(text: &[u8], at: usize, len: usize, stage: u32) -> Line
+    requires { ⌜ LineAt (now text) at len ⌝ }
+    ensures { λ r. ⌜ Says (take len (drop at (now (text .entry)))) stage r ⌝ }
+{
+    let count = frame_length(text, at, len);
+    if count == 0 {
+        return Line::Wrong(8);
+    }
+    if sum_of(text, at, count) % 256 != 0 {
+        return Line::Wrong(9);
+    }
+    let kind = byte_at(text, at);
+    if !in_place(stage, kind) {
+        return Line::Wrong(10);
+    }
+    if count != length_for(kind) {
+        return Line::Wrong(11);
+    }
+    if kind == 0 {
+        return Line::Size(byte_at(text, at + 2));
+    }
+    if kind == 15 {
+        return Line::Count(number_at(text, at + 2, 2) as u32);
+    }
+    let width = mask_width(kind);
+    Line::Clause {
+        kind,
+        ones: number_at(text, at + 2, width),
+        zeros: number_at(text, at + 2 + 2 * width, width),
+    }
+}
+
+// ---- what was read
+
+// Two masks behind the list in front of the store, if there is room.
+fn put(store: &mut [u64], count: usize, ones: u64, zeros: u64) -> bool
+    requires { ⌜ Lies count (now store) ⌝ }
+    ensures { λ r. ⌜ PutAs (now (store .entry)) count ones zeros r (now (store .exit)) ⌝ }
+{
+    if store.len() < 2 {
+        return false;
+    }
+    if store.len() - 2 < count {
+        return false;
+    }
+    store[count] = ones;
+    store[count + 1] = zeros;
+    true
+}
+
+// A clause more, with these counts of masks. Refusal 12: clause line number 1,025, or no room.
+fn one_more(room: bool, stage: u32, p: Place, start: usize, step: usize, bad: usize) -> Turn
+    ensures { λ r. ⌜ r ≡ oneMore room stage p start step bad ⌝ }
+{
+    if 1024 <= p.clauses {
+        return Turn::Refused(12);
+    }
+    if !room {
+        return Turn::Refused(12);
+    }
+    Turn::On(Place {
+        stage,
+        n: p.n,
+        clauses: p.clauses + 1,
+        start,
+        step,
+        bad,
+    })
+}
+
+// A clause: its list has two masks more.
+fn enter_clause(
+    p: Place,
+    kind: u32,
+    ones: u64,
+    zeros: u64,
+    start: &mut [u64],
+    step: &mut [u64],
+    bad: &mut [u64],
+) -> Turn
+    requires { ⌜ Lie p (lists (now start) (now step) (now bad)) ⌝ }
+    ensures { λ r. ⌜ Enters p (Clause kind ones zeros) (lists (now (start .entry)) (now (step .entry)) (now (bad .entry))) r (lists (now (start .exit)) (now (step .exit)) (now (bad .exit))) ⌝ }
+{
+    if kind == 1 {
+        let room = put(start, p.start, ones, zeros);
+        return one_more(room, 1, p, p.start + 2, p.step, p.bad);
+    }
+    if kind == 2 {
+        let room = put(step, p.step, ones, zeros);
+        return one_more(room, 2, p, p.start, p.step + 2, p.bad);
+    }
+    let room = put(bad, p.bad, ones, zeros);
+    one_more(room, 3, p, p.start, p.step, p.bad + 2)
+}
+
+// What a line says is entered. Refusal 13: count wrong.
+fn enter(p: Place, said: Line, start: &mut [u64], step: &mut [u64], bad: &mut [u64]) -> Turn
+    requires { ⌜ Lie p (lists (now start) (now step) (now bad)) ⌝ }
+    ensures { λ r. ⌜ Enters p said (lists (now (start .entry)) (now (step .entry)) (now (bad .entry))) r (lists (now (start .exit)) (now (step .exit)) (now (bad .exit))) ⌝ }
+{
+    match said {
+        Line::Size(n) => Turn::On(Place {
+            stage: 1,
+            n,
+            clauses: p.clauses,
+            start: p.start,
+            step: p.step,
+            bad: p.bad,
+        }),
+        Line::Clause { kind, ones, zeros } => enter_clause(p, kind, ones, zeros, start, step, bad),
+        Line::Count(count) => {
+            if count != p.clauses {
+                return Turn::Refused(13);
+            }
+            Turn::On(Place {
+                stage: 16,
+                n: p.n,
+                clauses: p.clauses,
+                start: p.start,
+                step: p.step,
+                bad: p.bad,
+            })
+        }
+        Line::Wrong(number) => Turn::Refused(number),
+    }
+}
+
+// The line of `len` bytes at this index, parsed and entered.
+fn take_line(
+    text: &[u8],
+    at: usize,
+    len: usize,
+    p: Place,
+    start: &mut [u64],
+    step: &mut [u64],
+    bad: &mut [u64],
+) -> Turn
+    requires { ⌜ (LineAt (now text) at len) × (Lie p (lists (now start) (now step) (now bad))) ⌝ }
+    ensures { λ r. ⌜ Takes p (take len (drop at (now (text .entry)))) (lists (now (start .entry)) (now (step .entry)) (now (bad .entry))) r (lists (now (start .exit)) (now (step .exit)) (now (bad .exit))) ⌝ }
+{
+    let said = parse(text, at, len, p.stage);
+    enter(p, said, start, step, bad)
+}
+
+// A refusal and its line.
+fn refused_at(number: u32, line: usize) -> House
+    ensures { λ r. ⌜ r ≡ record { number = number; line = line; n = 0; start = 0; step = 0; bad = 0 } ⌝ }
+{
+    House {
+        number,
+        line,
+        n: 0,
+        start: 0,
+        step: 0,
+        bad: 0,
+    }
+}
+
+// Line after line from this index on, into stores that are all zero.
+fn take_lines(text: &[u8], at: usize, start: &mut [u64], step: &mut [u64], bad: &mut [u64]) -> House
+    requires { ⌜ (at ≤ length (now text)) × (Lie (record { stage = 0; n = 0; clauses = 0; start = 0; step = 0; bad = 0 }) (lists (now start) (now step) (now bad))) ⌝ }
+    ensures { λ r. ⌜ Took (drop at (now (text .entry))) (lists (now (start .entry)) (now (step .entry)) (now (bad .entry))) r (lists (now (start .exit)) (now (step .exit)) (now (bad .exit))) ⌝ }
+{
+    let mut p = Place {
+        stage: 0,
+        n: 0,
+        clauses: 0,
+        start: 0,
+        step: 0,
+        bad: 0,
+    };
+    let mut i = at;
+    let mut line = 1;
+    while i < text.len() {
+        let len = line_length(text, i);
+        let t = take_line(text, i, len, p, start, step, bad);
+        match t {
+            Turn::On(q) => {
+                p = q;
+            }
+            Turn::Refused(number) => {
+                return refused_at(number, line);
+            }
+        }
+        i += len;
+        line += 1;
+    }
+    if p.stage != 16 {
+        return refused_at(10, line);
+    }
+    House {
+        number: 0,
+        line: 0,
+        n: p.n,
+        start: p.start,
+        step: p.step,
+        bad: p.bad,
+    }
+}
+
+// All three stores become zero.
+fn clear_stores(start: &mut [u64], step: &mut [u64], bad: &mut [u64])
+    ensures { λ _. ⌜ lists (now (start .exit)) (now (step .exit)) (now (bad .exit)) ≡ filled (lists (now (start .entry)) (now (step .entry)) (now (bad .entry))) [] [] [] ⌝ }
+{
+    call::clear(start);
+    call::clear(step);
+    call::clear(bad);
+}
+
+// The text from this index on. After a refusal the stores are all zero; else all behind each list is zero.
+fn read_from(text: &[u8], at: usize, start: &mut [u64], step: &mut [u64], bad: &mut [u64]) -> House
+    requires { ⌜ Within (now text) at ⌝ }
+    ensures { λ r. ⌜ Reads (drop at (now (text .entry))) (lists (now (start .entry)) (now (step .entry)) (now (bad .entry))) r (lists (now (start .exit)) (now (step .exit)) (now (bad .exit))) ⌝ }
+{
+    clear_stores(start, step, bad);
+    let house = take_lines(text, at, start, step, bad);
+    if house.number != 0 {
+        clear_stores(start, step, bad);
+    }
+    house
+}
+
+// ---- a reader keeps the text and its place in it
+
+// A text, and the index of the next line.
+struct Reader<'a> {
+    text: &'a [u8],
+    at: usize,
+}
+
+// The whole text is still to be read.
+fn new<'a>(text: &'a [u8]) -> Reader<'a>
+    ensures { λ r. ⌜ (r .text ≡ text .entry) × (r .at ≡ 0) ⌝ }
+{
+    Reader { text, at: 0 }
+}
+
+// Everything from the reader's place on.
+fn read_all<'a>(r: Reader<'a>, start: &mut [u64], step: &mut [u64], bad: &mut [u64]) -> House
+    requires { ⌜ Within (now (r .text)) (r .at) ⌝ }
+    ensures { λ h. ⌜ Reads (drop (r .entry .at) (now (r .entry .text))) (lists (now (start .entry)) (now (step .entry)) (now (bad .entry))) h (lists (now (start .exit)) (now (step .exit)) (now (bad .exit))) ⌝ }
+{
+    read_from(r.text, r.at, start, step, bad)
+}
+
+// A house file: its n and lists, or the first refusal and its line. After a refusal the stores are all zero; else all behind each list is zero.
+pub fn read(text: &[u8], start: &mut [u64], step: &mut [u64], bad: &mut [u64]) -> House
+    ensures { λ r. ⌜ Reads (now (text .entry)) (lists (now (start .entry)) (now (step .entry)) (now (bad .entry))) r (lists (now (start .exit)) (now (step .exit)) (now (bad .exit))) ⌝ }
+{
+    read_all(new(text), start, step, bad)
+}
