@@ -6,7 +6,8 @@ pub const NEVER: u32 = 0xFFFF_FFFF;
 
 // Kinds of lists. NOTHING is one clause of two zero masks, EVERYTHING the empty list. CLAUSES has as many short clauses as the density says. The
 // others give what is true explicitly, with a clause for each state or pair left out: SOME of them, by the density; steps to the next state alone;
-// these and from each state to itself; steps to no higher state.
+// these and from each state to itself; steps to no higher state. COUNTER has steps to the next state alone too, in a few clauses; with an odd density
+// the highest state has no next one, else 0 comes after it.
 pub const NOTHING: u64 = 0;
 
 pub const EVERYTHING: u64 = 1;
@@ -20,6 +21,8 @@ pub const CHAIN: u64 = 4;
 pub const LOOPS: u64 = 5;
 
 pub const DOWN: u64 = 6;
+
+pub const COUNTER: u64 = 7;
 
 const NONE: u64 = 0xFFFF_FFFF_FFFF_FFFF;
 
@@ -39,22 +42,23 @@ pub fn next(seed: u64) -> u64 {
 
 // Whether the clause is true of the word, literal by literal from bit 0 up.
 pub fn clause_holds(ones: u64, zeros: u64, word: u64) -> bool {
-    let mut a = ones;
-    let mut b = zeros;
-    let mut w = word;
     let mut left = ones | zeros;
-    while left != 0 {
-        if w % 2 == 0 {
-            if b % 2 == 1 {
+    let mut k = 0u64;
+    while k < 64 {
+        if left == 0 {
+            return false;
+        }
+        let rest = left & (left - 1);
+        let bit = left ^ rest;
+        if word & bit == 0 {
+            if zeros & bit != 0 {
                 return true;
             }
-        } else if a % 2 == 1 {
+        } else if ones & bit != 0 {
             return true;
         }
-        a /= 2;
-        b /= 2;
-        w /= 2;
-        left /= 2;
+        left = rest;
+        k += 1;
     }
     false
 }
@@ -112,6 +116,29 @@ fn literals(n: u32, later: bool, wanted: u64, random: u64) -> u64 {
         | literal(n, later, wanted, third)
 }
 
+// Clause j of a counter, about bit i. If bit c, below it, is 0, then bit i stays; if all bits below it are 1, it changes. Behind them the clause that
+// the state is not the highest.
+fn counting(n: u32, j: u64) -> Clause {
+    let i = j / 32 % 32;
+    let c = j / 2 % 16;
+    let bit = 1 << i;
+    let two = bit | bit << 32;
+    let stays = 1 << c | if j % 2 == 0 { bit } else { bit << 32 };
+    let below = low(i as u32, NONE);
+    if i == (n % 16) as u64 || c == i && j % 2 == 1 {
+        return Clause {
+            there: true,
+            ones: 0,
+            zeros: below | if i == (n % 16) as u64 { 0 } else { two },
+        };
+    }
+    Clause {
+        there: c <= i,
+        ones: if c == i { two } else { stays },
+        zeros: if c == i { below } else { (stays | two) ^ stays },
+    }
+}
+
 // Clause j of a list; of an explicit one that which is false of pair j, or state j, alone.
 fn made(kind: u64, density: u64, n: u32, later: bool, j: u64, random: u64) -> Clause {
     if kind == NOTHING {
@@ -127,6 +154,9 @@ fn made(kind: u64, density: u64, n: u32, later: bool, j: u64, random: u64) -> Cl
             ones: literals(n, later, 1, random),
             zeros: literals(n, later, 0, random),
         };
+    }
+    if kind == COUNTER {
+        return counting(n, j);
     }
     let s = low(n, j);
     let t = j >> (n % 16);
@@ -157,6 +187,8 @@ pub fn fill(kind: u64, density: u64, n: u32, later: bool, seed: u64, list: &mut 
     let bits = if later { n % 16 * 2 } else { n % 16 };
     let most = if kind == CLAUSES {
         density
+    } else if kind == COUNTER {
+        (n % 16 * 32) as u64 + density % 2
     } else {
         1 << (bits % 32)
     };

@@ -15,8 +15,17 @@ abbrev μ-loop : tie.MeasureT-loop
 mul-bits : tie.Need-mul-bits Inv-loop μ-loop
 mul-bits c = search needs
 
+mul-most : tie.Need-mul-most Inv-loop μ-loop
+mul-most c = search needs
+
 cast-most : tie.Need-cast-most Inv-loop μ-loop
 cast-most c = search needs
+
+add-most : tie.Need-add-most Inv-loop μ-loop
+add-most c = search needs
+
+cast-most-2 : tie.Need-cast-most-2 Inv-loop μ-loop
+cast-most-2 c = search needs
 
 shl-most : tie.Need-shl-most Inv-loop μ-loop
 shl-most c = search needs
@@ -58,7 +67,10 @@ fill-spec =
     Inv-loop
     μ-loop
     mul-bits
+    mul-most
     cast-most
+    add-most
+    cast-most-2
     shl-most
     rem-end
     loop-holds

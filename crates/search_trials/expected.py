@@ -1,0 +1,282 @@
+#!/usr/bin/env python3
+"""What the program must write: the same systems, decided from document 01 alone, with sets of states and of steps. Each call is worked out by a
+search over lists of states, and its evidence and its length held against a walk. Takes some minutes."""
+
+M64 = 2**64 - 1
+NOTHING, EVERYTHING, SOME, CLAUSES, CHAIN, LOOPS, DOWN, COUNTER = range(8)
+SMALL, SYSTEMS = 5120, 5440
+
+
+def next_number(x):
+    x ^= x << 13 & M64
+    x ^= x >> 7
+    return x ^ (x << 17 & M64)
+
+
+def literal(n, later, bits):
+    """A position and the value wanted there."""
+    return (bits >> 1) % 64 % n + (32 if later and bits >> 7 & 1 else 0), bits & 1
+
+
+def numbers(x):
+    while True:
+        x = next_number(x)
+        yield x
+
+
+def short_clauses(density, n, later, x):
+    """The pairs, or states, of which clauses of two or three literals are true."""
+    made = []
+    for _, r in zip(range(density), numbers(x)):
+        made.append([literal(n, later, r >> 8 * k & 255) for k in range(2 + (r >> 24 & 1))])
+    low = range(2**n)
+
+    def wanted(places):
+        ones = zeros = 0
+        for p, v in places:
+            if v:
+                ones |= 1 << p
+            else:
+                zeros |= 1 << p
+        return ones, zeros
+
+    # for each state the clauses that are left to the state one step later
+    pairs = [(wanted([l for l in c if l[0] < 32]), wanted([(p - 32, v) for p, v in c if p >= 32])) for c in made]
+    right = [sum(1 << k for k, (_, (a, b)) in enumerate(pairs) if a & t or b & ~t) for t in low]
+    every = (1 << len(pairs)) - 1
+    for s in low:
+        need = every & ~sum(1 << k for k, ((a, b), _) in enumerate(pairs) if a & s or b & ~s)
+        for t in low if later else (0,):
+            if need & ~right[t] == 0:
+                yield s, t
+
+
+def true_of(kind, density, n, later, x):
+    """The pairs of a state and the next, or of a state and 0, of which a list is true."""
+    if kind == NOTHING:
+        return set()
+    if kind == CLAUSES:
+        return set(short_clauses(density, n, later, x))
+    if kind == COUNTER:
+        return {(s, (s + 1) % 2**n) for s in range(2**n - density % 2)}
+    found = set()
+    for j, r in zip(range(4**n if later else 2**n), numbers(x)):
+        s, t = j % 2**n, j >> n
+        lucky = (r >> 20) % 2 ** (n + 1) < density
+        if {
+            EVERYTHING: True,
+            SOME: lucky,
+            CHAIN: t == s + 1,
+            LOOPS: t in (s, s + 1),
+            DOWN: t <= s and lucky,
+        }[kind]:
+            found.add((s, t))
+    return found
+
+
+class Over(Exception):
+    """The number with which a search gives up."""
+
+
+class Search:
+    """Steps 1 to 5 of document 01."""
+
+    def __init__(self, start, before, bad, room, allowance):
+        self.start, self.before, self.bad = start, before, bad
+        self.room, self.allowance = room, allowance
+        self.level, self.asked = {}, 0
+
+    def ask(self, states, i):
+        """The least of the states, which are in order, that is in R(i)."""
+        if self.asked == self.allowance:
+            raise Over(5)
+        self.asked += 1
+        if i == 0:
+            return next((s for s in states if s in self.start), None)
+        level = self.level
+        for s in states:
+            if level.get(s, 0) < i:
+                return s
+        return None
+
+    def put(self, s, k):
+        if s not in self.level and len(self.level) == self.room:
+            raise Over(6)
+        self.level[s] = k
+
+    def settle(self, s, top):
+        """A path, if there is one."""
+        duties = [s]
+        while duties:
+            k = top - len(duties) + 1
+            t = self.ask(self.before[duties[-1]], k - 1)
+            if t is None:
+                self.put(duties.pop(), k)
+            elif k == 1:
+                return [t] + duties[::-1]
+            else:
+                duties.append(t)
+        return None
+
+    def run(self):
+        """The number, what is said (0 safe, 1 unsafe, 2 neither), and the evidence."""
+        try:
+            return 0, *self.answer()
+        except Over as over:
+            return over.args[0], 2, []
+
+    def answer(self):
+        s = self.ask(self.bad, 0)
+        if s is not None:
+            return 1, [s]
+        top = 1
+        while True:
+            while (s := self.ask(self.bad, top)) is not None:
+                path = self.settle(s, top)
+                if path:
+                    return 1, path
+            top += 1
+            for i in range(1, top):
+                for s in list(self.level):
+                    if self.level[s] == i and self.ask(self.before[s], i) is None:
+                        self.level[s] = i + 1
+            sits = set(self.level.values())
+            for i in range(1, top):
+                if i not in sits:
+                    return 0, [s for s in self.level if self.level[s] >= i]
+
+
+def closest(first, edges):
+    """Breadth first, the distance of each state that is reached."""
+    dist, todo = {s: 0 for s in first}, list(first)
+    for s in todo:
+        for t in edges[s]:
+            if t not in dist:
+                dist[t] = dist[s] + 1
+                todo.append(t)
+    return dist
+
+
+def bits_of(i):
+    large = i >= SMALL
+    small_bits, large_bits = ((1, 9), (2, 9), (2, 9)) + ((3, 8),) * 4 + ((3, 7),) + ((4, 7),) * 5 + ((5, 7),) * 2 + ((6, 7),), None
+    n = small_bits[i % 16][large]
+    return 10 if large and i % 64 == 15 else n
+
+
+def step_kind(n, i):
+    kind = [CLAUSES] * 16
+    for k, slots in {SOME: (0, 8, 15), CHAIN: (2, 10), LOOPS: (3, 11), DOWN: (4, 12), COUNTER: (5,), NOTHING: (6,), EVERYTHING: (14,)}.items():
+        for slot in slots:
+            kind[slot] = k
+    kind = kind[i // 16 % 16]
+    if n < 5 or n == 5 and i // 256 % 8 == 0 or n == 6 and i // 16 % 128 in (0, 4):
+        return kind
+    if kind in (NOTHING, EVERYTHING) and n < 9:
+        return kind
+    return COUNTER if kind in (CHAIN, COUNTER) and n < 8 else CLAUSES
+
+
+def density(kind, n, steps, bits):
+    if kind == CLAUSES:
+        return n + bits % 16
+    return bits % 4 + (2 if steps in (CHAIN, LOOPS, COUNTER) else 3)
+
+
+def states_in(n, steps, shape, seed):
+    kind = {0: NOTHING, 1: EVERYTHING if n < 9 else CLAUSES, 2: CLAUSES, 3: CLAUSES, 4: CLAUSES}.get(shape % 16, SOME)
+    return sorted(s for s, _ in true_of(kind, density(kind, n, steps, shape >> 4), n, False, seed))
+
+
+def digest(seed, states):
+    for s in states:
+        seed = next_number(seed ^ s)
+    return seed
+
+
+def main():
+    names = [f"systems of {k} bit{'s' * (k > 1)}" for k in range(1, 11)]
+    kinds = ["no steps", "all steps", "some steps", "steps by short clauses"]
+    kinds += ["steps to the next", "to the next and itself", "steps down", "a counter's steps"]
+    names += kinds + ["no start state", "no bad state", "all states bad", "bad states not reached", "states without a next"]
+    names += ["safe", "unsafe", "states excluded", "states in paths", "sum of m", "sum of questions", "sum of rooms used", "longest path"]
+    names += ["calls", "room m sufficed", "calls that gave 5", "calls that gave 6", "digest of all calls"]
+    tally = dict.fromkeys(names, 0)
+    x, d = 0x9E3779B97F4A7C15, 0
+    for i in range(SYSTEMS):
+        x = next_number(x)
+        n = bits_of(i)
+        kind = step_kind(n, i)
+        start = states_in(n, kind, x >> 32, x ^ 0xC2B2AE3D27D4EB4F)
+        steps = true_of(kind, density(kind, n, kind, x >> 24), n, True, x ^ 0x165667B19E3779F9)
+        bad = states_in(n, kind, x >> 40, x ^ 0xFF51AFD7ED558CCD)
+        on, before = [[] for _ in range(2**n)], [[] for _ in range(2**n)]
+        for s, t in sorted(steps):
+            on[s].append(t)
+            before[t].append(s)
+        starts = set(start)
+        doom, reached = closest(bad, before), closest(start, on)
+        m = len(doom.keys() - starts)
+        most = 3 * (m + 2) * (m + 2)
+        hit = [reached[s] for s in bad if s in reached]
+
+        def call(room, allowance):
+            nonlocal d
+            search = Search(starts, before, bad, room, allowance)
+            number, said, evidence = search.run()
+            d = next_number(d ^ digest(number | said << 4 | search.asked << 8, evidence))
+            tally["calls"] += 1
+            if number:
+                tally[f"calls that gave {number}"] += 1
+            return number, said, evidence, search.asked, len(search.level)
+
+        number, said, evidence, asked, used = first = call(m, most)
+        # the walk
+        assert number == 0 and said == bool(hit) and asked <= most
+        if hit:
+            assert len(evidence) == min(hit) + 1 and evidence[0] in starts and evidence[-1] in bad
+            assert all(e in steps for e in zip(evidence, evidence[1:]))
+        else:
+            listed = set(evidence)
+            assert not listed & starts and listed >= set(bad)
+            assert all(s in listed for t in listed for s in before[t])
+        # the other calls
+        assert call(m, asked) == first
+        assert call(m, asked - 1)[:4] == (5, 2, [], asked - 1)
+        low, high = 0, m
+        while low < high:
+            room = (low + high) // 2
+            again = call(room, most)
+            if room >= used:
+                assert again == first
+                high = room
+            else:
+                assert again[:3] == (6, 2, [])
+                low = room + 1
+        assert low == used
+        for name, more in {
+            names[n - 1]: 1,
+            kinds[kind]: 1,
+            "no start state": not start,
+            "no bad state": not bad,
+            "all states bad": len(bad) == 2**n,
+            "bad states not reached": bool(bad) and not hit,
+            "states without a next": not all(on),
+            "unsafe" if hit else "safe": 1,
+            "states in paths" if hit else "states excluded": len(evidence),
+            "sum of m": m,
+            "sum of questions": asked,
+            "sum of rooms used": used,
+            "room m sufficed": 1,
+        }.items():
+            tally[name] += more
+        if hit:
+            tally["longest path"] = max(tally["longest path"], len(evidence))
+    tally["digest of all calls"] = d
+    wrong = ["gave up with room m", "verdict differs", "path length differs", "too many questions", "evidence check refuses"]
+    wrong += ["walk refuses", "store not zero", "other answer", "number not 5 or 6"]
+    for name, number in (tally | dict.fromkeys(wrong, 0)).items():
+        print(f"{name:25}{number}")
+
+
+main()

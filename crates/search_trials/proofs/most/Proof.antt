@@ -1,0 +1,28 @@
+-- `search_trials::most` is safe and ends. A product of two numbers that are no greater is no greater. Assumes nothing.
+use Prim.Native.Nat.{_+_, _*_, _≤_, _%_}
+use borrow.Author.Needs.{needs}
+use native.Mathlib.Nat.{mul-le-mul}
+use native.Mathlib.Omega.{arith}
+use Rattle.search_trials.proofs.most.Statement.{statement}
+use Rattle.search_trials.proofs.most.Tie as tie
+
+add-side : tie.Need-add-side
+add-side c = search needs
+
+cast-side : tie.Need-cast-side
+cast-side c = search needs
+
+mul-result : tie.Need-mul-result
+mul-result c = search needs
+
+mul-result-2 : tie.Need-mul-result-2
+mul-result-2 c =
+    let side = c .args .m % 1025 + 2 in
+    let h : 3 * side * side ≤ 3078 * 1026 = mul-le-mul {n₂ = 3078} {m₂ = 1026} (omega arith) (omega arith) in
+    omega (arith, h)
+
+returns : tie.Need-returns
+returns c = search needs
+
+pub most-spec : {M : Type 1} → statement M
+most-spec = tie.close (tie.spec add-side cast-side mul-result mul-result-2 returns)
