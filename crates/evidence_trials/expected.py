@@ -1,21 +1,15 @@
 #!/usr/bin/env python3
 """What the program must write: the same systems and damages, decided from document 01 alone, with sets of states and of steps."""
 
-M64 = 2**64 - 1
-NOTHING, EVERYTHING, SOME, CLAUSES, CHAIN, LOOPS, DOWN = range(7)
+import os
+import sys
+
+sys.dont_write_bytecode = True
+sys.path.insert(0, os.path.join(os.path.dirname(os.path.abspath(__file__)), "../small_systems"))
+from lists import CHAIN, CLAUSES, DOWN, EVERYTHING, LOOPS, NOTHING, SOME, explicit, literal, next_number
+
 WAYS = "kept removed replaced added swapped reversed twice empty".split()
 YES, NO, REFUSED = range(3)
-
-
-def next_number(x):
-    x ^= x << 13 & M64
-    x ^= x >> 7
-    return x ^ (x << 17 & M64)
-
-
-def literal(n, later, bits):
-    """A position and the value wanted there."""
-    return (bits >> 1) % 64 % n + (32 if later and bits >> 7 & 1 else 0), bits & 1
 
 
 def make(kind, density, n, later, r):
@@ -28,15 +22,7 @@ def make(kind, density, n, later, r):
         if kind == CLAUSES:
             made.append([literal(n, later, r >> 8 * k & 255) for k in range(2 + (r >> 24 & 1))])
             continue
-        s, t = j % 2**n, j >> n
-        lucky = (r >> 20) % 2 ** (n + 1) < density
-        true = {
-            EVERYTHING: True,
-            SOME: lucky,
-            CHAIN: t == s + 1,
-            LOOPS: t in (s, s + 1),
-            DOWN: t <= s and lucky,
-        }[kind]
+        s, t, true = explicit(kind, density, n, j, r)
         if not true:
             word = s + (t << 32)
             made.append([(p, 1 - (word >> p & 1)) for b in range(n) for p in ((b, b + 32) if later else (b,))])

@@ -1,14 +1,14 @@
 #!/usr/bin/env python3
 """What the program must write: the same random questions, answered from the definition in document 01 alone."""
 
-M64 = 2**64 - 1
+import os
+import sys
+
+sys.dont_write_bytecode = True
+sys.path.insert(0, os.path.join(os.path.dirname(os.path.abspath(__file__)), "../small_systems"))
+from lists import next_number
+
 LOW, LATER, WILD = range(3)
-
-
-def next_number(x):
-    x ^= x << 13 & M64
-    x ^= x >> 7
-    return x ^ (x << 17 & M64)
 
 
 def position(byte, n, kind):

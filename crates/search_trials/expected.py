@@ -2,20 +2,14 @@
 """What the program must write: the same systems, decided from document 01 alone, with sets of states and of steps. Each call is worked out by a
 search over lists of states, and its evidence and its length held against a walk. Takes some minutes."""
 
-M64 = 2**64 - 1
-NOTHING, EVERYTHING, SOME, CLAUSES, CHAIN, LOOPS, DOWN, COUNTER = range(8)
+import os
+import sys
+
+sys.dont_write_bytecode = True
+sys.path.insert(0, os.path.join(os.path.dirname(os.path.abspath(__file__)), "../small_systems"))
+from lists import CHAIN, CLAUSES, COUNTER, DOWN, EVERYTHING, LOOPS, NOTHING, SOME, explicit, literal, next_number
+
 SMALL, SYSTEMS = 5120, 5440
-
-
-def next_number(x):
-    x ^= x << 13 & M64
-    x ^= x >> 7
-    return x ^ (x << 17 & M64)
-
-
-def literal(n, later, bits):
-    """A position and the value wanted there."""
-    return (bits >> 1) % 64 % n + (32 if later and bits >> 7 & 1 else 0), bits & 1
 
 
 def numbers(x):
@@ -61,15 +55,8 @@ def true_of(kind, density, n, later, x):
         return {(s, (s + 1) % 2**n) for s in range(2**n - density % 2)}
     found = set()
     for j, r in zip(range(4**n if later else 2**n), numbers(x)):
-        s, t = j % 2**n, j >> n
-        lucky = (r >> 20) % 2 ** (n + 1) < density
-        if {
-            EVERYTHING: True,
-            SOME: lucky,
-            CHAIN: t == s + 1,
-            LOOPS: t in (s, s + 1),
-            DOWN: t <= s and lucky,
-        }[kind]:
+        s, t, true = explicit(kind, density, n, j, r)
+        if true:
             found.add((s, t))
     return found
 
