@@ -1,13 +1,12 @@
 -- What the answer means. Its first digit, 8 or 9, A or F, tells what the call said, and what a call says is right (demand 2). So an answer that
 -- begins with 80 shows that the text's system is safe, and one that begins with 90 that it is unsafe, with a shortest path. Assumes nothing.
-use Prim.Native.Nat.{ℕ, _≤_}
-use mathlib.Core.Bool.{false}
+use Prim.Native.Nat.{ℕ, _≤_, _<_}
 use mathlib.Core.List.{List}
 use mathlib.Core.Path.{_≡_, refl, sym, ap, _∙_}
 use native.Mathlib.Omega.{arith}
 use lib.Dec.{ltb}
 use Rattle.ic3.specs.Model.{Model}
-use Rattle.ic3.specs.Demands.{Reach, Unsafe}
+use Rattle.ic3.specs.Demands.{Safe, Unsafe}
 use Rattle.ic3.proofs.Tests.{test}
 use Rattle.system.specs.System.{model}
 use Rattle.call.specs.Call.{Stores, Said, says-safe, says-unsafe, says-nothing, result, called}
@@ -18,8 +17,9 @@ use Rattle.house.specs.File as house
 use Rattle.answer.specs.Output.{letter, digits, lineOf}
 use Rattle.answer.specs.Answer.{verdictLines, gaveUpLine, refusalLine, callLines, roomOf1024, systemLines}
 use Rattle.answer.specs.Answer.{clauseRooms, systemIn, saidLines, answered}
-use Rattle.answer.specs.Promise.{Writes, Begins, Shows-safe, Shows-unsafe, Answers}
+use Rattle.answer.specs.Promise.{Writes, Begins, Shows, Answers}
 use Rattle.answer.proofs.Short.{answered-short}
+use Rattle.answer.proofs.Limits.{answered-cut, refused-line, file-number}
 
 -- the first digit, by what is said
 abbrev Tells : Said → ℕ → Type 0
@@ -45,15 +45,19 @@ call-tells a says-nothing number questions evidence after h =
     (λ e. refusal-tells a number 0 (rw (e, callLines) at h))
     (λ e. gave-up-tells a number questions (rw (e, callLines) at h))
 
--- 80: what is said is safe, and right
-told-safe : (M : Model) (said : Said) (evidence : List ℕ) → Tells said 56 → Right M said evidence → (k s : ℕ) → Reach M k s → M .bad s ≡ false
-told-safe M says-safe evidence t d = d .never
-told-safe M says-unsafe evidence t d = absurd (omega arith)
-told-safe M says-nothing evidence t d = absurd (omega arith)
+-- Of a call that said something right, and whose answer begins with this digit: the answer's lines are a verdict of this kind, and right.
+abbrev Told : ℕ → ℕ → (Model → List ℕ → Type 0) → Type 0
+Told a kind Rightly =
+    (M : Model) (said : Said) (number questions : ℕ) (evidence : List ℕ) (after : Stores) → Tells said a → Right M said evidence
+    → (callLines (result number said questions evidence after) ≡ verdictLines kind questions evidence) × Rightly M evidence
 
--- 90: what is said is unsafe, and right
-told-unsafe : (M : Model) (said : Said) (number questions : ℕ) (evidence : List ℕ) (after : Stores) → Tells said 57 → Right M said evidence
-    → (callLines (result number said questions evidence after) ≡ verdictLines 144 questions evidence) × Unsafe M evidence
+told-safe : Told 56 128 Safe
+unfolding callLines
+told-safe M says-safe number questions evidence after t d = (refl, d)
+told-safe M says-unsafe number questions evidence after t d = absurd (omega arith)
+told-safe M says-nothing number questions evidence after t d = absurd (omega arith)
+
+told-unsafe : Told 57 144 Unsafe
 unfolding callLines
 told-unsafe M says-safe number questions evidence after t d = absurd (omega arith)
 told-unsafe M says-unsafe number questions evidence after t d = (refl, d)
@@ -68,29 +72,27 @@ module _ (text : List ℕ) where
   unfolding answered saidLines
   answered-refused number line e = ap saidLines e
 
-  pub shows-safe : Begins 56 48 (answered text) → Shows-safe text
-  shows-safe h = pick (said clauseRooms text) refl
+  shows : (a kind : ℕ) (Rightly : Model → List ℕ → Type 0) → a < 65 → Told a kind Rightly → Begins a 48 (answered text) → Shows text kind Rightly
+  shows a kind Rightly low told h = pick (said clauseRooms text) refl
     where
-      pick : (s : house.Said) → said clauseRooms text ≡ s → Shows-safe text
-      pick (refused number line) e = absurd (omega (arith, refusal-tells 56 number line (rw (answered-refused number line e) at h)))
+      pick : (s : house.Said) → said clauseRooms text ≡ s → Shows text kind Rightly
+      pick (refused number line) e = absurd (omega (arith, low, refusal-tells a number line (rw (answered-refused number line e) at h)))
       pick (file r) e =
           let y = systemIn r in
           let c = called y roomOf1024 1000000 in
-          let t = call-tells 56 (c .said) _ _ _ _ (rw (answered-file r e) at h) in
-          record { reading = r; read = e; never = told-safe (model y) (c .said) (c .evidence) t (called-right y roomOf1024 1000000) }
-
-  pub shows-unsafe : Begins 57 48 (answered text) → Shows-unsafe text
-  shows-unsafe h = pick (said clauseRooms text) refl
-    where
-      pick : (s : house.Said) → said clauseRooms text ≡ s → Shows-unsafe text
-      pick (refused number line) e = absurd (omega (arith, refusal-tells 57 number line (rw (answered-refused number line e) at h)))
-      pick (file r) e =
-          let y = systemIn r in
-          let c = called y roomOf1024 1000000 in
-          let t = call-tells 57 (c .said) _ _ _ _ (rw (answered-file r e) at h) in
-          let u = told-unsafe (model y) (c .said) _ _ (c .evidence) _ t (called-right y roomOf1024 1000000) in
-          record { reading = r; read = e; questions = c .questions; path = c .evidence; lines = answered-file r e ∙ u .0; shortest = u .1 }
+          let t = call-tells a (c .said) _ _ _ _ (rw (answered-file r e) at h) in
+          let u = told (model y) (c .said) _ _ (c .evidence) _ t (called-right y roomOf1024 1000000) in
+          record { reading = r; read = e; questions = c .questions; evidence = c .evidence; lines = answered-file r e ∙ u .0; right = u .1 }
 
   -- the promise, out of what was written
   pub answers : {before : List ℕ} {r : ℕ} {after : List ℕ} → Writes 0 (answered text) before r after → Answers text before r after
-  answers w = record { writes = w; short = omega (arith, w .end, answered-short text); safe = shows-safe; unsafe = shows-unsafe }
+  answers w =
+      record {
+        writes = w;
+        short = omega (arith, w .end, answered-short text);
+        cut = answered-cut text;
+        line = refused-line text;
+        number = file-number text;
+        safe = shows 56 128 Safe (omega arith) told-safe;
+        unsafe = shows 57 144 Unsafe (omega arith) told-unsafe;
+      }

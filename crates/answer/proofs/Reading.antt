@@ -5,21 +5,17 @@ use mathlib.Core.List.{List}
 use mathlib.Core.Path.{_≡_, refl, ap, _∙_}
 use native.Mathlib.Omega.{arith}
 use lib.ListN.{length, take, replicate, length-append, length-replicate}
-use lib.Seq.{take-append-seam}
 use Rattle.system.specs.System.{System}
 use Rattle.call.specs.Call.{over}
 use Rattle.call.specs.Promise.{systemOf}
+use Rattle.call.proofs.Over.{over-front}
 use Rattle.house.specs.File.{Reading, Said, file, refused, said}
 use Rattle.house.specs.Promise.{Lists, lists, roomsOf, filled, Result, resultOf, Reads}
 use Rattle.house.specs.declared.House.{House}
-use Rattle.house.proofs.Numbered.{Refusing, said-numbered}
+use Rattle.house.proofs.Limits.{Limited, said-limited}
 use Rattle.answer.specs.Answer.{refusalLine, clauseRooms, systemIn, systemLines}
 use Rattle.answer.specs.Promise.{Writes, Answers}
 use Rattle.answer.proofs.Meaning.{answered-file, answered-refused, answers}
-
-over-front : (front store : List ℕ) → take (length front) (over front store) ≡ front
-unfolding over
-over-front front store = take-append-seam front _
 
 over-within : (front store : List ℕ) → length front ≤ length (over front store)
 unfolding over
@@ -72,17 +68,17 @@ module _ (text : List ℕ) (lent : Lists) (h : House) (after : Lists) (reads : R
   -- the number 0: a file
   read-file : h .number ≡ 0 → (r : Reading) × (said (roomsOf lent) text ≡ file r) × (systemRead h after ≡ systemIn r)
   unfolding resultOf filled
-  read-file z = pick (said (roomsOf lent) text) refl (said-numbered (roomsOf lent) text)
+  read-file z = pick (said (roomsOf lent) text) refl (said-limited (roomsOf lent) text)
     where
-      pick : (s : Said) → said (roomsOf lent) text ≡ s → Refusing s
+      pick : (s : Said) → said (roomsOf lent) text ≡ s → Limited s
           → (r : Reading) × (said (roomsOf lent) text ≡ file r) × (systemRead h after ≡ systemIn r)
       pick (file r) e k =
           let q = whole-said (file r) e in (
             r,
             e,
-            rw (ap (λ w. w .house) q, ap (λ w. w .after) q) (rw (over-front (r .start) _, over-front (r .step) _, over-front (r .bad) _)),
+            rw (ap (λ w. w .house) q, ap (λ w. w .after) q) (rw (over-front _ (r .start) _ refl, over-front _ (r .step) _ refl, over-front _ (r .bad) _ refl)),
           )
-      pick (refused number line) e k = absurd (omega (arith, ap (λ w. w .house .number) (whole-said (refused number line) e)))
+      pick (refused number line) e k = absurd (omega (arith, k .0, ap (λ w. w .house .number) (whole-said (refused number line) e)))
 
   -- what is then written is the answer
   module _ (rooms : roomsOf lent ≡ clauseRooms) {before : List ℕ} {end : ℕ} {written : List ℕ} where

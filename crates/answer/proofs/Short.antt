@@ -1,13 +1,13 @@
 -- No answer is longer than 13,359 bytes: a line of 21, and one of 13 for each of at most 1,026 states, as evidence is longer than the room by two at
 -- most. Assumes nothing.
 use Prim.Native.Nat.{ℕ, _+_, _*_, _≤_}
-use mathlib.Core.List.{List, [], _∷_, _++_}
+use mathlib.Core.List.{List, [], _∷_}
 use mathlib.Core.Path.{_≡_, refl}
 use native.Mathlib.Omega.{arith}
 use lib.Dec.{ltb}
-use lib.ListN.{length, length-append, length-replicate}
+use lib.ListN.{length, length-append}
 use Rattle.ic3.proofs.Tests.{test}
-use Rattle.call.specs.Call.{Stores, Said, says-safe, says-unsafe, says-nothing, result, called}
+use Rattle.call.specs.Call.{Stores, Said, says-safe, says-unsafe, says-nothing, result}
 use Rattle.call.proofs.Call.{called-evidence}
 use Rattle.house.specs.File.{Said as Read, file, refused, said}
 use Rattle.answer.specs.Output.{one, two, four}

@@ -1,16 +1,18 @@
 -- What the answer promises, and what it means to a user.
 use Prim.Native.Nat.{ℕ, _+_, _≤_}
-use mathlib.Core.Bool.{false}
+use mathlib.Core.Bool.{true}
 use mathlib.Core.List.{List, [], _∷_}
 use mathlib.Core.Path.{_≡_}
-use lib.ListN.{length}
-use Rattle.ic3.specs.Demands.{Reach, Unsafe}
+use lib.ListN.{length, take}
+use Rattle.ic3.specs.Model.{Model}
+use Rattle.ic3.specs.Demands.{Safe, Unsafe, listed}
 use Rattle.system.specs.System.{model}
+use Rattle.call.specs.Call.{called}
 use Rattle.call.specs.Promise.{stores, resultOf}
 use Rattle.call.specs.declared.Outcome.{Outcome}
-use Rattle.house.specs.File.{Reading, file, said}
+use Rattle.house.specs.File.{Reading, file, refused, said}
 use Rattle.answer.specs.Output.{laid}
-use Rattle.answer.specs.Answer.{verdictLines, callLines, clauseRooms, systemIn, answered}
+use Rattle.answer.specs.Answer.{verdictLines, callLines, roomOf1024, clauseRooms, systemIn, answered}
 
 -- w was written into a buffer from index i on, and ends at index r
 pub record Writes (i : ℕ) (w before : List ℕ) (r : ℕ) (after : List ℕ) : Type 0 where
@@ -27,25 +29,27 @@ Begins a b [] = ⊥
 Begins a b (x ∷ []) = ⊥
 Begins a b (x ∷ (y ∷ rest)) = (x ≡ a) × (y ≡ b)
 
--- the text is a house file, and no reachable state of its system is bad
-pub record Shows-safe (text : List ℕ) : Type 0 where
-  pub reading : Reading
-  pub read : said clauseRooms text ≡ file reading
-  pub never : (k s : ℕ) → Reach (model (systemIn reading)) k s → model (systemIn reading) .bad s ≡ false
-
--- the text is a house file, its system is unsafe, and the answer's 91 lines are a shortest path
-pub record Shows-unsafe (text : List ℕ) : Type 0 where
+-- The text is a house file, the answer's lines are a verdict of this kind, and the states in them are right evidence for the file's system.
+pub record Shows (text : List ℕ) (kind : ℕ) (Right : Model → List ℕ → Type 0) : Type 0 where
   pub reading : Reading
   pub read : said clauseRooms text ≡ file reading
   pub questions : ℕ
-  pub path : List ℕ
-  pub lines : answered text ≡ verdictLines 144 questions path
-  pub shortest : Unsafe (model (systemIn reading)) path
+  pub evidence : List ℕ
+  pub lines : answered text ≡ verdictLines kind questions evidence
+  pub right : Right (model (systemIn reading)) evidence
 
--- The answer lies in front of the buffer, as far as that reaches, and its whole length is returned, which is 13,359 bytes at most. If it begins with
--- 80 the system is safe, if with 90 it is unsafe.
+-- the numbers that a file can bring about
+abbrev pub FromFile : ℕ → Type 0
+FromFile number = listed (0 ∷ (1 ∷ (3 ∷ (5 ∷ (6 ∷ []))))) number ≡ true
+
+-- The answer lies in front of the buffer, as far as that reaches, and its whole length is returned, which is 13,359 bytes at most. What stands behind
+-- the first 37,999 bytes of the text does not matter. Two bytes hold the line of a refusal, and no file is refused with 2 or 4. If the answer begins
+-- with 80 the system is safe and the 81 lines are excluded states that show it; if with 90 it is unsafe and the 91 lines are a shortest path.
 pub record Answers (text before : List ℕ) (r : ℕ) (after : List ℕ) : Type 0 where
   pub writes : Writes 0 (answered text) before r after
   pub short : r ≤ 13359
-  pub safe : Begins 56 48 (answered text) → Shows-safe text
-  pub unsafe : Begins 57 48 (answered text) → Shows-unsafe text
+  pub cut : answered text ≡ answered (take 37999 text)
+  pub line : (number line : ℕ) → said clauseRooms text ≡ refused number line → line ≤ 1027
+  pub number : (reading : Reading) → said clauseRooms text ≡ file reading → FromFile (called (systemIn reading) roomOf1024 1000000 .number)
+  pub safe : Begins 56 48 (answered text) → Shows text 128 Safe
+  pub unsafe : Begins 57 48 (answered text) → Shows text 144 Unsafe

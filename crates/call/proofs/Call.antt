@@ -7,7 +7,7 @@ use mathlib.Core.Path.{_≡_, refl, sym, _∙_}
 use native.Mathlib.Omega.{arith}
 use borrow.Author.Tests.{eqb-true, ltb-false}
 use lib.Dec.{eqb, ltb}
-use lib.ListN.{length, length-append, length-replicate}
+use lib.ListN.{length}
 use Rattle.ic3.specs.Model.{Model}
 use Rattle.ic3.specs.Search.{Verdict, safe, unsafe, noRoom, spent, searched}
 use Rattle.ic3.specs.Demands.{Demand-2}
@@ -15,21 +15,19 @@ use Rattle.ic3.proofs.Tests.{clash}
 use Rattle.ic3.proofs.Sound.{demand-2}
 use Rattle.ic3.proofs.Fit.{FitsEnding, ending-fits}
 use Rattle.system.specs.System.{System, model, refusalOf}
-use Rattle.call.specs.Call.{Stores, wrongStores, refused, says-nothing, Result, result, over, leaves, ended, called}
+use Rattle.call.specs.Call.{Stores, wrongStores, refused, Said, says-safe, says-unsafe, says-nothing, Result, result, leaves, ended, called}
 use Rattle.call.specs.Promise.{Right}
+use Rattle.call.proofs.Over.{over-length}
 
 -- the system's own refusals come first
 pub refused-system : (y : System) (s : Stores) (r : ℕ) → refusalOf y ≡ suc r → refused y s ≡ suc r
 unfolding refused
 refused-system y s r e = rw (e, refused)
 
-pub refused-stores : (y : System) (s : Stores) → refusalOf y ≡ 0 → wrongStores s ≡ true → refused y s ≡ 4
+-- then refusal 4, or none
+pub refused-stores : (y : System) (s : Stores) {b : Bool} → refusalOf y ≡ 0 → wrongStores s ≡ b → refused y s ≡ elim b [ true ↦ 4 | false ↦ 0 ]
 unfolding refused
 refused-stores y s e w = rw (e, refused) (rw w)
-
-pub refused-not : (y : System) (s : Stores) → refusalOf y ≡ 0 → wrongStores s ≡ false → refused y s ≡ 0
-unfolding refused
-refused-not y s e w = rw (e, refused) (rw w)
 
 pub refused-none : (y : System) (s : Stores) → refused y s ≡ 0 → (refusalOf y ≡ 0) × (wrongStores s ≡ false)
 unfolding refused
@@ -63,6 +61,12 @@ ended-right M s q (unsafe path) d = d
 ended-right M s q spent d = tt
 ended-right M s q noRoom d = tt
 
+-- something is said
+abbrev pub Speaks : Said → Type 0
+Speaks says-safe = Unit {0}
+Speaks says-unsafe = Unit {0}
+Speaks says-nothing = ⊥
+
 module _ (y : System) (s : Stores) (allowance : ℕ) where
   -- what a call says is right
   pub called-right : Right (model y) (called y s allowance .said) (called y s allowance .evidence)
@@ -73,18 +77,14 @@ module _ (y : System) (s : Stores) (allowance : ℕ) where
       pick (suc r) e = rw (called-refused y s allowance r e) tt
 
   -- a call that says something was given a system that is not refused
-  pub called-accepts : (called y s allowance .said ≡ says-nothing → ⊥) → refusalOf y ≡ 0
+  pub called-accepts : Speaks (called y s allowance .said) → refusalOf y ≡ 0
   called-accepts f = pick (refused y s) refl
     where
       pick : (r : ℕ) → refused y s ≡ r → refusalOf y ≡ 0
       pick zero e = refused-none y s e .0
-      pick (suc r) e = absurd (f (rw (called-refused y s allowance r e)))
+      pick (suc r) e = absurd (rw (called-refused y s allowance r e) at f)
 
 -- ---- lengths
-pub over-length : (front store : List ℕ) → length front ≤ length store → length (over front store) ≡ length store
-unfolding over
-over-length front store h = simp (length-append, length-replicate) (omega arith)
-
 -- what stores that are not refused are
 pub record Fitting (s : Stores) : Type 0 where
   pub same : length (s .states) ≡ length (s .levels)

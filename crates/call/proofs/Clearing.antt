@@ -7,17 +7,25 @@ use native.Mathlib.Nat.{le-refl}
 use native.Mathlib.Omega.{arith}
 use borrow.Author.Fill.{fill-more}
 use borrow.Rule.Slice.PartMut.{midOf, putMid, mid-len, post-is}
-use lib.ListN.{length, set, take, drop, replicate}
+use lib.ListN.{length, set, take, drop, replicate, length-set}
 use lib.Seq.{drop-length, take-all}
 
+-- what the loop of clearing keeps: the store is j zeros, and behind them what it was
+pub record Cleared (before store : List ℕ) (j : ℕ) : Type 0 where
+  pub within : j ≤ length before
+  pub same : length store ≡ length before
+  pub zeros : store ≡ replicate j 0 ++ drop j before
+
 -- one number more is zero
-pub cleared-more : (store before : List ℕ) (j : ℕ) → j < length before → store ≡ replicate j 0 ++ drop j before
-    → set store j 0 ≡ replicate (j + 1) 0 ++ drop (j + 1) before
-cleared-more store before j h e = rw e (fill-more j 0 before h)
+pub cleared-more : {before store : List ℕ} {j : ℕ} → Cleared before store j → j < length before → Cleared before (set store j 0) (j + 1)
+cleared-more {before} {store} {j} c h =
+    record { within = omega arith; same = simp length-set (c .same); zeros = rw (c .zeros) (fill-more j 0 before h) }
 
 -- all numbers are zero
-pub cleared-all : (store before : List ℕ) (j : ℕ) → j ≡ length before → store ≡ replicate j 0 ++ drop j before → store ≡ replicate (length before) 0
-cleared-all store before j h e = e ∙ rw (h, drop-length) (append-nil _)
+pub cleared-all : {before store : List ℕ} {j : ℕ} → Cleared before store j → length before ≤ j → store ≡ replicate (length before) 0
+cleared-all {before} {store} {j} c h =
+    let e : j ≡ length before = omega arith in
+    c .zeros ∙ rw (e, drop-length) (append-nil _)
 
 -- a tail that was lent, cleared and came back
 pub tail-cleared : (k : ℕ) (xs ys : List ℕ) → k ≤ length xs → ys ≡ replicate (length (midOf k (length xs - k) xs)) 0

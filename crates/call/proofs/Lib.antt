@@ -1,4 +1,5 @@
 -- The root of the theorems.
+pub mod Over
 pub mod Call
 pub mod Sequencers
 pub mod Clearing

@@ -14,7 +14,7 @@ use Rattle.ic3.proofs.Tests.{clash}
 use Rattle.system.specs.System.{System, literalTrue, clauseTrue, listTrue, word, model, wrongSize, wrongCount, wrongBit, refusalOf}
 use Rattle.call.specs.Call.{Stores, Result, ended}
 use Rattle.call.specs.Sequencers.{Step, given, ring, ringGiven, late, lateGiven, chain, chainGiven, Given, Sequencer, sequencer, sequencers, Ends, Worked}
-use Rattle.call.proofs.Call.{refused-not, called-searches}
+use Rattle.call.proofs.Call.{refused-stores, called-searches}
 
 -- ---- the systems are the ones given
 differ : Bool → Bool → Bool
@@ -93,7 +93,7 @@ each (x ∷ l) e a =
       evidence = ap (λ y. y .evidence) c;
       questions = ap (λ y. y .questions) c;
     } in (
-      λ s h w. rw (called-searches (x .system) s (x .allowance) (refused-not (x .system) s r w), h) (ends-same x s _ _ f),
+      λ s h w. rw (called-searches (x .system) s (x .allowance) (refused-stores (x .system) s r w), h) (ends-same x s _ _ f),
       each l (cc) (cc),
     )
 

@@ -10,19 +10,12 @@ use Rattle.system.specs.System.{System, listTrue, word, model}
 use Rattle.evidence.specs.Check.{each, refused, outside, closedFrom, leadsOn, excludedStates, pathOf}
 use Rattle.evidence.specs.Promise.{Excluded, Path}
 use Rattle.evidence.specs.declared.Checked.{Checked}
-use Rattle.evidence.specs.declared.Checked.the-variants.{Yes, No, Refused}
+use Rattle.evidence.specs.declared.Checked.the-variants.{Yes, No}
 use Rattle.evidence.proofs.Excluding.{start-listed, bad-unlisted, then-closed}
 use Rattle.evidence.proofs.Paths.{path-empty, path-no-start, path-nowhere, path-leads}
-use Rattle.evidence.proofs.Judging.{number-checked, checked-judges, excluded-promised, path-promised}
+use Rattle.evidence.proofs.Judging.{checked-judges, excluded-promised, path-promised}
 
 module _ (y : System) (xs : List ℕ) where
-  -- a refusal, of either kind
-  pub excluded-refused : (r : ℕ) → r ≡ refused y xs → (r ≡ 0 → ⊥) → Excluded y xs (Refused r)
-  excluded-refused r e f = excluded-promised y xs _ (number-checked y xs excludedStates r e f)
-
-  pub path-refused : (r : ℕ) → r ≡ refused y xs → (r ≡ 0 → ⊥) → Path y xs (Refused r)
-  path-refused r e f = path-promised y xs _ (number-checked y xs pathOf r e f)
-
   module _ (z : refused y xs ≡ 0) where
     -- a start state is listed
     pub excluded-start : each (λ x. not (listTrue (y .start) x)) xs ≡ false → Excluded y xs (No 0)

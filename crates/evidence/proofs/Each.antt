@@ -14,21 +14,26 @@ use Rattle.ic3.specs.Demands.{listed}
 use Rattle.ic3.proofs.Tests.{test, clash}
 use Rattle.evidence.specs.Check.{each}
 
-module _ (p : ℕ → Bool) (l : List ℕ) (i : ℕ) where
-  -- one that fails decides
-  pub each-stops : i < length l → p (getD l i 0) ≡ false → each p (drop i l) ≡ false
-  unfolding each
-  each-stops h e = rw (drop-cons l i 0 h) (rw (e, each))
+module _ (p : ℕ → Bool) (l : List ℕ) where
+  -- a walk stands at index i: the whole list answers what it answers from there on
+  abbrev pub Walked : ℕ → Type 0
+  Walked i = (i ≤ length l) × (each p l ≡ each p (drop i l))
 
-  -- one that passes is passed over
-  pub each-passes : i < length l → p (getD l i 0) ≡ true → each p (drop i l) ≡ each p (drop (i + 1) l)
-  unfolding each
-  each-passes h e = rw (drop-cons l i 0 h, ← add-one i) (rw (e, each))
+  module _ (i : ℕ) (w : Walked i) where
+    -- one that fails decides
+    pub each-stops : i < length l → p (getD l i 0) ≡ false → false ≡ each p l
+    unfolding each
+    each-stops h e = rw (w .1, drop-cons l i 0 h) (rw (e, each))
 
-  -- the end of the list is reached
-  pub each-ends : length l ≤ i → each p (drop i l) ≡ true
-  unfolding each
-  each-ends h = rw (drop-of-length-le l h)
+    -- one that passes is passed over
+    pub each-passes : i < length l → p (getD l i 0) ≡ true → Walked (i + 1)
+    unfolding each
+    each-passes h e = (omega arith, rw (w .1, drop-cons l i 0 h, ← add-one i) (rw (e, each)))
+
+    -- the end of the list is reached
+    pub each-ends : length l ≤ i → true ≡ each p l
+    unfolding each
+    each-ends h = rw (w .1, drop-of-length-le l h)
 
 -- a list whose first one passes
 each-rest : (p : ℕ → Bool) (x : ℕ) (xs : List ℕ) → each p (x ∷ xs) ≡ true → (p x ≡ true) × (each p xs ≡ true)
@@ -64,11 +69,11 @@ each-at p (x ∷ xs) e (suc j) h = each-at p xs (each-rest p x xs e .1) j (omega
 
 -- each is below m, tested by comparing
 module _ (m : ℕ) (l : List ℕ) (i : ℕ) (h : i < length l) where
-  pub below-stops : m ≤ getD l i 0 → each (λ x. ltb x m) (drop i l) ≡ false
-  below-stops b = each-stops (λ x. ltb x m) l i h (le-ltb (getD l i 0) m b)
+  pub below-stops : Walked (λ x. ltb x m) l i → m ≤ getD l i 0 → false ≡ each (λ x. ltb x m) l
+  below-stops w b = each-stops (λ x. ltb x m) l i w h (le-ltb (getD l i 0) m b)
 
-  pub below-passes : getD l i 0 < m → each (λ x. ltb x m) (drop i l) ≡ each (λ x. ltb x m) (drop (i + 1) l)
-  below-passes b = each-passes (λ x. ltb x m) l i h (lt-ltb (getD l i 0) m b)
+  pub below-passes : Walked (λ x. ltb x m) l i → getD l i 0 < m → Walked (λ x. ltb x m) l (i + 1)
+  below-passes w b = each-passes (λ x. ltb x m) l i w h (lt-ltb (getD l i 0) m b)
 
   pub below-at : each (λ x. ltb x m) l ≡ true → getD l i 0 < m
   below-at e = ltb-true (getD l i 0) m (each-at (λ x. ltb x m) l e i h)

@@ -5,14 +5,14 @@ use Prim.Native.Nat.{ℕ, suc, _+_, _≤_, _<_}
 use mathlib.Core.Bool.{Bool, true, false, not, _&&_}
 use mathlib.Core.List.{List, [], _∷_}
 use mathlib.Core.Option.{Option, none, some}
-use mathlib.Core.Path.{_≡_, refl, sym, ap, _∙_}
+use mathlib.Core.Path.{_≡_, refl}
 use native.Mathlib.Numerals.{add-one}
 use native.Mathlib.Omega.{arith}
 use borrow.Author.Tests.{not-true, not-false, eqb-true, eq-eqb}
 use lib.Dec.{eqb}
 use lib.ListN.{length, getD, drop, drop-of-length-le}
 use lib.Seq.{drop-cons}
-use Rattle.ic3.specs.Model.{Model, least, Answers}
+use Rattle.ic3.specs.Model.{Model, Answers}
 use Rattle.ic3.specs.Demands.{listed, Excludes}
 use Rattle.ic3.proofs.Least.{least-answers}
 use Rattle.ic3.proofs.Tests.{test, clash, both, first-false}

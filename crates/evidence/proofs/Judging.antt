@@ -4,7 +4,7 @@
 use Prim.Native.Nat.{ℕ, zero, suc, _^_, _<_, _≤_}
 use mathlib.Core.Bool.{Bool, true, false}
 use mathlib.Core.List.{List}
-use mathlib.Core.Path.{_≡_, refl, sym, ap, _∙_}
+use mathlib.Core.Path.{_≡_, refl, sym}
 use native.Mathlib.Nat.{lt-of-lt-of-le}
 use native.Mathlib.Omega.{arith}
 use borrow.Author.Tests.{ltb-true, lt-ltb}
@@ -16,11 +16,11 @@ use Rattle.ic3.specs.Demands.{IsPath, listed, Excludes}
 use Rattle.ic3.proofs.Frames.{excludes-never, path-hit}
 use Rattle.system.specs.System.{System, model, refusalOf}
 use Rattle.system.proofs.Refusals.{size-right, refusal-none}
-use Rattle.call.specs.Call.{Stores, Said, says-safe, says-unsafe, says-nothing, called}
+use Rattle.call.specs.Call.{Stores, Said, says-safe, says-unsafe, called}
 use Rattle.call.specs.Promise.{Right}
-use Rattle.call.proofs.Call.{called-right, called-accepts}
+use Rattle.call.proofs.Call.{Speaks, called-right, called-accepts}
 use Rattle.evidence.specs.Check.{each, refused, excludedStates, pathOf, checked, questionsOf}
-use Rattle.evidence.specs.Promise.{Says-yes, Judged, Excluded, Bad-reached, Path}
+use Rattle.evidence.specs.Promise.{Judged, Excluded, Path}
 use Rattle.evidence.specs.declared.Checked.{Checked}
 use Rattle.evidence.specs.declared.Checked.the-variants.{Yes, No, Refused}
 use Rattle.evidence.proofs.Each.{each-listed, listed-each}
@@ -75,6 +75,11 @@ module _ (y : System) (xs : List ℕ) where
   unfolding model
   accepts e w = refused-states true e (listed-each (λ x. ltb x (2 ^ y .n)) xs (λ s h. lt-ltb s (2 ^ y .n) (w s h)))
 
+  -- what the search hands back with this word is not refused, and R holds
+  abbrev Own : Said → Type 0 → Type 0
+  Own word R =
+      (lent : Stores) (allowance : ℕ) → called y lent allowance .said ≡ word → called y lent allowance .evidence ≡ xs → (refused y xs ≡ 0) × R
+
   -- ---- the definition, case by case
   module _ (judge : Model → List ℕ → Checked) where
     pub checked-refused : (r : ℕ) → refused y xs ≡ suc r → checked judge y xs ≡ Refused (suc r)
@@ -90,9 +95,7 @@ module _ (y : System) (xs : List ℕ) where
     number-checked zero e f = absurd (f refl)
     number-checked (suc r) e f = sym (checked-refused r (sym e))
 
-    module _ (R : Type 0) (word : Said) (decides : Within → Decides (judge (model y) xs) R)
-        (own : (lent : Stores) (allowance : ℕ) → called y lent allowance .said ≡ word → called y lent allowance .evidence ≡ xs
-        → (refused y xs ≡ 0) × R) where
+    module _ (R : Type 0) (word : Said) (decides : Within → Decides (judge (model y) xs) R) (own : Own word R) where
       decided : refused y xs ≡ 0 → (c : Checked) → Decides c R → Judged y xs R word c
       decided z (Yes q) d = record { yes = (λ t. (z, d), λ t. tt); no = (λ t. absurd t, λ t. t .1 d); own = λ lent allowance e f. tt }
       decided z (No q) d =
@@ -126,24 +129,16 @@ module _ (y : System) (xs : List ℕ) where
       pick (suc r) e = rw (checked-refused judge r e) (omega arith)
 
   -- ---- what the search hands back
-  own-excluded : (lent : Stores) (allowance : ℕ) → called y lent allowance .said ≡ says-safe → called y lent allowance .evidence ≡ xs
-      → (refused y xs ≡ 0) × Excludes (model y) (listed xs)
-  own-excluded lent allowance e f =
-      let s = rw (e, f) at (called-right y lent allowance) in
-      (accepts (called-accepts y lent allowance (λ q. absurd (let o : _≡_ {A = ℕ} 0 1 = cc in omega arith))) (s .states), s .excludes)
-
-  own-path : (lent : Stores) (allowance : ℕ) → called y lent allowance .said ≡ says-unsafe → called y lent allowance .evidence ≡ xs
-      → (refused y xs ≡ 0) × IsPath (model y) xs
-  own-path lent allowance e f =
-      let s = rw (e, f) at (called-right y lent allowance) in (
-        accepts (called-accepts y lent allowance (λ q. absurd (let o : _≡_ {A = ℕ} 0 1 = cc in omega arith))) (path-within (model y) xs (s .real)),
-        s .real,
-      )
+  own : (word : Said) (R : Type 0) → Speaks word → (Right (model y) word xs → Within × R) → Own word R
+  own word R says part lent allowance e f =
+      let w = part (rw (e, f) at (called-right y lent allowance)) in
+      (accepts (called-accepts y lent allowance (rw e says)) (w .0), w .1)
 
   -- ---- the promises
   pub excluded-promised : (r : Checked) → r ≡ checked excludedStates y xs → Excluded y xs r
   excluded-promised r e =
-      let j = judged excludedStates (Excludes (model y) (listed xs)) says-safe (excluded-decides (model y) xs) own-excluded in
+      let own-right = own says-safe (Excludes (model y) (listed xs)) tt (λ s. (s .states, s .excludes)) in
+      let j = judged excludedStates (Excludes (model y) (listed xs)) says-safe (excluded-decides (model y) xs) own-right in
       rw e (record {
         equation = refl;
         judged = j;
@@ -153,7 +148,8 @@ module _ (y : System) (xs : List ℕ) where
 
   pub path-promised : (r : Checked) → r ≡ checked pathOf y xs → Path y xs r
   path-promised r e =
-      let j = judged pathOf (IsPath (model y) xs) says-unsafe (path-decides (model y) xs) own-path in
+      let own-right = own says-unsafe (IsPath (model y) xs) tt (λ s. (path-within (model y) xs (s .real), s .real)) in
+      let j = judged pathOf (IsPath (model y) xs) says-unsafe (path-decides (model y) xs) own-right in
       rw e (record {
         equation = refl;
         judged = j;

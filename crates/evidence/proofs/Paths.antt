@@ -3,7 +3,7 @@
 use Prim.Native.Nat.{ℕ, suc, _+_, _<_, _≤_}
 use mathlib.Core.Bool.{Bool, true, false}
 use mathlib.Core.List.{List, [], _∷_}
-use mathlib.Core.Path.{_≡_, refl, sym, _∙_}
+use mathlib.Core.Path.{_≡_, refl}
 use native.Mathlib.Numerals.{add-one}
 use native.Mathlib.Omega.{arith}
 use borrow.Author.Tests.{eqb-true, eq-eqb}
@@ -14,7 +14,6 @@ use Rattle.ic3.specs.Model.{Model}
 use Rattle.ic3.specs.Demands.{Leads, IsPath, listed}
 use Rattle.ic3.proofs.Tests.{test, clash}
 use Rattle.evidence.specs.Check.{leadsOn, pathOf, questionsOf}
-use Rattle.evidence.specs.declared.Checked.{Checked}
 use Rattle.evidence.specs.declared.Checked.the-variants.{Yes, No}
 use Rattle.evidence.proofs.Excluding.{Decides}
 

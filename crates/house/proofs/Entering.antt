@@ -14,7 +14,6 @@ use Rattle.house.specs.Lent.{takenAs, Lies, PutAs, Lie, readingOf, oneMo
 use Rattle.house.specs.declared.Line.{Line}
 use Rattle.house.specs.declared.Line.the-variants.{Size, Clause, Count, Wrong}
 use Rattle.house.specs.declared.Place.{Place}
-use Rattle.house.specs.declared.Turn.{Turn}
 use Rattle.house.specs.declared.Turn.the-variants.{On, Refused}
 use Rattle.house.proofs.Lying.{put-room}
 
@@ -70,14 +69,11 @@ module _ (p : Place) (l : Lists) (kind ones zeros : ℕ) where
       pick false has t e = record { same = g .same; leads = refl; lies = tt }
 
 -- each kind's list
-module _ (p : Place) (start step bad : List ℕ) (w : Lie p (lists start step bad)) (kind ones zeros : ℕ) (room : Bool) where
-  abbrev Grown : Turn → List ℕ → List ℕ → List ℕ → Type 0
-  Grown t start' step' bad' = Enters p (Clause kind ones zeros) (lists start step bad) t (lists start' step' bad')
-
-  pub start-put : (start' : List ℕ) → kind ≡ 1 → PutAs start (p .start) ones zeros room start'
-      → Grown (oneMore room 1 p (p .start + 2) (p .step) (p .bad)) start' step bad
+module _ {p : Place} {start step bad : List ℕ} (w : Lie p (lists start step bad)) {kind ones zeros : ℕ} {room : Bool} where
+  pub start-put : {start' : List ℕ} → kind ≡ 1 → PutAs start (p .start) ones zeros room start'
+      → Enters p (Clause kind ones zeros) (lists start step bad) (oneMore room 1 p (p .start + 2) (p .step) (p .bad)) (lists start' step bad)
   unfolding roomFor withClause
-  start-put start' e g =
+  start-put {start'} e g =
       clause-put p (lists start step bad) kind ones zeros room 1 (p .start + 2) (p .step) (p .bad) (lists start' step bad)
       (record {
         found = rw e (put-room start (p .start) ones zeros room start' (w .start) g);
@@ -86,10 +82,10 @@ module _ (p : Place) (start step bad : List ℕ) (w : Lie p (lists start step ba
         reading = λ t. rw (e, g .more t .1, add-one);
       })
 
-  pub step-put : (step' : List ℕ) → kind ≡ 2 → PutAs step (p .step) ones zeros room step'
-      → Grown (oneMore room 2 p (p .start) (p .step + 2) (p .bad)) start step' bad
+  pub step-put : {step' : List ℕ} → kind ≡ 2 → PutAs step (p .step) ones zeros room step'
+      → Enters p (Clause kind ones zeros) (lists start step bad) (oneMore room 2 p (p .start) (p .step + 2) (p .bad)) (lists start step' bad)
   unfolding roomFor withClause
-  step-put step' e g =
+  step-put {step'} e g =
       clause-put p (lists start step bad) kind ones zeros room 2 (p .start) (p .step + 2) (p .bad) (lists start step' bad)
       (record {
         found = rw e (put-room step (p .step) ones zeros room step' (w .step) g);
@@ -98,10 +94,10 @@ module _ (p : Place) (start step bad : List ℕ) (w : Lie p (lists start step ba
         reading = λ t. rw (e, g .more t .1, add-one);
       })
 
-  pub bad-put : (bad' : List ℕ) → (kind ≡ 1 → ⊥) → (kind ≡ 2 → ⊥) → PutAs bad (p .bad) ones zeros room bad'
-      → Grown (oneMore room 3 p (p .start) (p .step) (p .bad + 2)) start step bad'
+  pub bad-put : {bad' : List ℕ} → (kind ≡ 1 → ⊥) → (kind ≡ 2 → ⊥) → PutAs bad (p .bad) ones zeros room bad'
+      → Enters p (Clause kind ones zeros) (lists start step bad) (oneMore room 3 p (p .start) (p .step) (p .bad + 2)) (lists start step bad')
   unfolding roomFor withClause
-  bad-put bad' e f g =
+  bad-put {bad'} e f g =
       clause-put p (lists start step bad) kind ones zeros room 3 (p .start) (p .step) (p .bad + 2) (lists start step bad')
       (record {
         found = rw (ne-eqb kind 1 e, ne-eqb kind 2 f, roomFor) (put-room bad (p .bad) ones zeros room bad' (w .bad) g);
@@ -111,23 +107,23 @@ module _ (p : Place) (start step bad : List ℕ) (w : Lie p (lists start step ba
       })
 
 -- ---- what is no clause
-module _ (p : Place) (l : Lists) (w : Lie p l) (said : Line) where
-  pub size-read : (n : ℕ) → said ≡ Size n
+module _ {p : Place} {l : Lists} (w : Lie p l) {said : Line} where
+  pub size-read : {n : ℕ} → said ≡ Size n
       → Enters p said l (On (record { stage = 1; n = n; clauses = p .clauses; start = p .start; step = p .step; bad = p .bad })) l
-  size-read n e =
+  size-read e =
       rw e (record { same = same-refl l; leads = refl; lies = record { most = w .most; start = w .start; step = w .step; bad = w .bad } })
 
-  pub count-right : (count : ℕ) → said ≡ Count count → count ≡ p .clauses
+  pub count-right : {count : ℕ} → said ≡ Count count → count ≡ p .clauses
       → Enters p said l (On (record { stage = 16; n = p .n; clauses = p .clauses; start = p .start; step = p .step; bad = p .bad })) l
-  count-right count e f =
+  count-right {count} e f =
       rw e (record {
         same = same-refl l;
         leads = rw (eq-eqb count (p .clauses) f, takenAs);
         lies = record { most = w .most; start = w .start; step = w .step; bad = w .bad };
       })
 
-  pub count-wrong : (count : ℕ) → said ≡ Count count → (count ≡ p .clauses → ⊥) → Enters p said l (Refused 13) l
-  count-wrong count e f = rw e (record { same = same-refl l; leads = rw (ne-eqb count (p .clauses) f, takenAs); lies = tt })
+  pub count-wrong : {count : ℕ} → said ≡ Count count → (count ≡ p .clauses → ⊥) → Enters p said l (Refused 13) l
+  count-wrong {count} e f = rw e (record { same = same-refl l; leads = rw (ne-eqb count (p .clauses) f, takenAs); lies = tt })
 
-  pub line-wrong : (number : ℕ) → said ≡ Wrong number → Enters p said l (Refused number) l
-  line-wrong number e = rw e (record { same = same-refl l; leads = refl; lies = tt })
+  pub line-wrong : {number : ℕ} → said ≡ Wrong number → Enters p said l (Refused number) l
+  line-wrong e = rw e (record { same = same-refl l; leads = refl; lies = tt })

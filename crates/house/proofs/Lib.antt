@@ -9,6 +9,8 @@ pub mod Judging
 pub mod Saying
 pub mod Lying
 pub mod Entering
-pub mod Numbered
+pub mod Limits
 pub mod Taking
 pub mod Reading
+pub mod Cut
+pub mod Lending

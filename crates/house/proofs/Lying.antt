@@ -10,6 +10,7 @@ use lib.ListN.{length, take, set, replicate, length-append, length-set, length-r
 use lib.Seq.{length-take-le, append-snoc, set-at, take-at}
 use Rattle.ic3.proofs.Tests.{clash}
 use Rattle.call.specs.Call.{over}
+use Rattle.call.proofs.Over.{over-none}
 use Rattle.house.specs.File.{hasRoom}
 use Rattle.house.specs.Lent.{Lies, PutAs}
 
@@ -26,8 +27,8 @@ module _ (front : List ℕ) (k count : ℕ) (store : List ℕ) (e : store ≡ fr
       record { fits = omega arith; rest = rw (lies-take, l, z) e }
 
 -- the empty list
-pub lies-none : (n : ℕ) (store : List ℕ) → store ≡ replicate n 0 → Lies 0 store
-lies-none n store e = lies [] n 0 store e refl
+pub lies-none : (store : List ℕ) → Lies 0 (over [] store)
+lies-none store = lies [] (length store) 0 (over [] store) (sym (over-none store)) refl
 
 -- two masks behind a front
 two-more : (front : List ℕ) (k count ones zeros : ℕ) → length front ≡ count

@@ -29,7 +29,7 @@ module _ (line : List ℕ) (rooms : Rooms) (r : Reading) where
   unfolding lineTaken
   taken-long frame e h = rw (e, lineTaken) (rw (ne-eqb (length frame) 0 (λ f. omega (arith, f)), lt-ltb 18 (length frame) h))
 
-  malformed : ((frame : List ℕ) → bytes line ≡ some frame → 0 < length frame → length frame ≤ 18 → ⊥) → lineTaken rooms r line ≡ refuse 8
+  pub malformed : ((frame : List ℕ) → bytes line ≡ some frame → 0 < length frame → length frame ≤ 18 → ⊥) → lineTaken rooms r line ≡ refuse 8
   malformed never = by (bytes line) refl
     where
       by : (o : Option (List ℕ)) → bytes line ≡ o → lineTaken rooms r line ≡ refuse 8

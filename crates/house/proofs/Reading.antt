@@ -3,10 +3,10 @@
 use Prim.Native.Nat.{ℕ}
 use mathlib.Core.List.{List, []}
 use mathlib.Core.Path.{_≡_, refl, sym, ap, _∙_}
-use native.Mathlib.Nat.{sub-zero}
 use native.Mathlib.Omega.{arith}
-use lib.ListN.{length, replicate, length-replicate}
+use lib.ListN.{length, replicate}
 use Rattle.call.specs.Call.{over}
+use Rattle.call.proofs.Over.{over-length, over-none}
 use Rattle.house.specs.File.{Said, file, refused, said}
 use Rattle.house.specs.Promise.{Lists, lists, roomsOf, filled, Result, resultOf, Reads}
 use Rattle.house.specs.Lent.{Lie, Same, Took}
@@ -15,16 +15,12 @@ use Rattle.house.proofs.Lying.{lies-none}
 use Rattle.house.proofs.Taking.{rooms-same, same-then}
 
 -- ---- clearing
-over-none : (store : List ℕ) → over [] store ≡ replicate (length store) 0
-unfolding over
-over-none store = rw sub-zero
-
 -- three stores of zeros
 pub stores-cleared : (start step bad start' step' bad' : List ℕ)
     → start' ≡ replicate (length start) 0 → step' ≡ replicate (length step) 0 → bad' ≡ replicate (length bad) 0
     → lists start' step' bad' ≡ filled (lists start step bad) [] [] []
 unfolding filled
-stores-cleared start step bad start' step' bad' e f g = rw (over-none start, over-none step, over-none bad, e, f, g)
+stores-cleared start step bad start' step' bad' e f g = rw (e, f, g) (rw (over-none start, over-none step, over-none bad))
 
 module _ (before after : Lists) (e : after ≡ filled before [] [] []) where
   -- as long as they were
@@ -32,9 +28,9 @@ module _ (before after : Lists) (e : after ≡ filled before [] [] []) where
   unfolding filled
   cleared-same =
       rw (e, filled) (record {
-        start = rw (over-none (before .start), length-replicate);
-        step = rw (over-none (before .step), length-replicate);
-        bad = rw (over-none (before .bad), length-replicate);
+        start = over-length [] (before .start) (omega arith);
+        step = over-length [] (before .step) (omega arith);
+        bad = over-length [] (before .bad) (omega arith);
       })
 
   -- nothing lies in them
@@ -43,9 +39,9 @@ module _ (before after : Lists) (e : after ≡ filled before [] [] []) where
   cleared-lie =
       rw (e, filled) (record {
         most = omega arith;
-        start = lies-none (length (before .start)) (over [] (before .start)) (over-none (before .start));
-        step = lies-none (length (before .step)) (over [] (before .step)) (over-none (before .step));
-        bad = lies-none (length (before .bad)) (over [] (before .bad)) (over-none (before .bad));
+        start = lies-none (before .start);
+        step = lies-none (before .step);
+        bad = lies-none (before .bad);
       })
 
 -- ---- the result

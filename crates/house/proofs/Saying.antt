@@ -59,7 +59,7 @@ module _ (text : List ℕ) (i len count stage : ℕ) (w : FrameAt text i len cou
       pub right-at : count ≡ m → Right text i len count stage kind
       right-at f = record { frame = makes kind k; sums = rw e at right; place = sym p ∙ place; size = f ∙ q }
 
-module _ (text : List ℕ) (i len count stage kind : ℕ) (w : Right text i len count stage kind) where
+module _ {text : List ℕ} {i len count stage kind : ℕ} (w : Right text i len count stage kind) where
   size : length (frameAt text i count) ≡ lengthFor kind
   size = frame-size text count i ∙ w .size
 

@@ -8,17 +8,17 @@ use native.Mathlib.Omega.{arith}
 use borrow.Author.Tests.{eq-eqb, ne-eqb}
 use lib.ListN.{length, take, drop, drop-of-length-le}
 use lib.Seq.{length-take-le}
-use Rattle.call.specs.Call.{over}
+use Rattle.call.proofs.Over.{over-same}
 use Rattle.house.specs.Text.{lines}
 use Rattle.house.specs.File.{Rooms, Reading, Taken, on, refuse, lineTaken, Said, file, refused, readLines, said}
 use Rattle.house.specs.Promise.{Lists, lists, roomsOf, filled, resultOf}
-use Rattle.house.specs.Lent.{LineAt, Says, Lies, Lie, readingOf, Same, Enters, Takes, Took}
+use Rattle.house.specs.Lent.{LineAt, Says, Lie, readingOf, Same, Enters, Takes, Took}
 use Rattle.house.specs.declared.Line.{Line}
 use Rattle.house.specs.declared.Place.{Place}
 use Rattle.house.specs.declared.Turn.{Turn}
 use Rattle.house.specs.declared.Turn.the-variants.{On, Refused}
 use Rattle.house.proofs.Entering.{same-refl}
-use Rattle.house.proofs.Numbered.{said-numbered}
+use Rattle.house.proofs.Limits.{said-limited}
 
 -- ---- a line
 -- what it says was entered, so it was taken
@@ -54,10 +54,6 @@ rooms-same before after e = rw (e .start, e .step, e .bad)
 pub same-then : (a b c : Lists) → Same a b → Same b c → Same a c
 same-then a b c e f = record { start = f .start ∙ e .start; step = f .step ∙ e .step; bad = f .bad ∙ e .bad }
 
-over-same : (count : ℕ) (store before : List ℕ) → Lies count store → length store ≡ length before → store ≡ over (take count store) before
-unfolding over
-over-same count store before w e = w .rest ∙ rw e
-
 lists-same : (l : Lists) (start step bad : List ℕ) → l .start ≡ start → l .step ≡ step → l .bad ≡ bad → l ≡ lists start step bad
 lists-same l start step bad e f g = rw (← e, ← f, ← g)
 
@@ -76,67 +72,69 @@ module _ (text : List ℕ) (at : ℕ) (before : Lists) where
   unfolding said
   taking-first h w = record { within = h; counted = omega arith; same = same-refl before; lie = w; rest = refl }
 
-  module _ (i line : ℕ) (p : Place) (l : Lists) (w : Taking i line p l) (len : ℕ) (a : LineAt text i len) (after : Lists) where
-    -- the rest is this line and what follows it
-    first : (t : Taken) → lineTaken (roomsOf l) (readingOf p l) (take len (drop i text)) ≡ t
-        → following (roomsOf before) (lines (drop (i + len) text)) line t ≡ said (roomsOf before) (drop at text)
-    first t e =
-        sym (read-line (roomsOf before) _ _ line (readingOf p l) t (rw (rooms-same before l (w .same)) at e)) ∙ (rw (a .first) at (w .rest))
+module _ {text : List ℕ} {at : ℕ} {before : Lists} {i line : ℕ} {p : Place} {l : Lists} (w : Taking text at before i line p l)
+    {len : ℕ} (a : LineAt text i len) where
+  -- the rest is this line and what follows it
+  first : (t : Taken) → lineTaken (roomsOf l) (readingOf p l) (take len (drop i text)) ≡ t
+      → following (roomsOf before) (lines (drop (i + len) text)) line t ≡ said (roomsOf before) (drop at text)
+  first t e =
+      sym (read-line (roomsOf before) _ _ line (readingOf p l) t (rw (rooms-same before l (w .same)) at e)) ∙ (rw (a .first) at (w .rest))
 
-    -- a line was taken
-    pub taking-on : (q : Place) → Takes p (take len (drop i text)) l (On q) after → Taking (i + len) (line + 1) q after
-    taking-on q t =
-        record {
-          within = a .within;
-          counted = omega (arith, a .filled, w .counted);
-          same = same-then before l after (w .same) (t .same);
-          lie = t .lies;
-          rest = rw add-one (first (on (readingOf q after)) (sym (t .leads)));
-        }
+  -- a line was taken
+  pub taking-on : {q : Place} {after : Lists} → Takes p (take len (drop i text)) l (On q) after → Taking text at before (i + len) (line + 1) q after
+  taking-on {q} {after} t =
+      record {
+        within = a .within;
+        counted = omega (arith, a .filled, w .counted);
+        same = same-then before l after (w .same) (t .same);
+        lie = t .lies;
+        rest = rw add-one (first (on (readingOf q after)) (sym (t .leads)));
+      }
 
-    -- a line was refused
-    pub taking-refused : (number : ℕ) → Takes p (take len (drop i text)) l (Refused number) after
-        → Took (drop at text) before (record { number = number; line = line; n = 0; start = 0; step = 0; bad = 0 }) after
-    unfolding resultOf
-    taking-refused number t =
-        let e : said (roomsOf before) (drop at text) ≡ refused number line = sym (first (refuse number) (sym (t .leads))) in
-        let n : 0 < number = rw e at (said-numbered (roomsOf before) (drop at text)) in
-        record {
-          same = same-then before l after (w .same) (t .same);
-          answer = rw e;
-          lists = λ z. absurd (omega arith);
-        }
+  -- a line was refused
+  pub taking-refused : {number : ℕ} {after : Lists} → Takes p (take len (drop i text)) l (Refused number) after
+      → Took (drop at text) before (record { number = number; line = line; n = 0; start = 0; step = 0; bad = 0 }) after
+  unfolding resultOf
+  taking-refused {number} {after} t =
+      let e : said (roomsOf before) (drop at text) ≡ refused number line = sym (first (refuse number) (sym (t .leads))) in
+      let n : 0 < number = rw e at (said-limited (roomsOf before) (drop at text)) .0 in
+      record {
+        same = same-then before l after (w .same) (t .same);
+        answer = rw e;
+        lists = λ z. absurd (omega arith);
+      }
 
-  -- the text has ended
-  module _ (i line : ℕ) (p : Place) (l : Lists) (w : Taking i line p l) (h : length text ≤ i) where
-    last : readLines (roomsOf before) [] line (readingOf p l) ≡ said (roomsOf before) (drop at text)
-    unfolding lines
-    last = rw (drop-of-length-le text h) at (w .rest)
+-- the text has ended
+module _ {text : List ℕ} {at : ℕ} {before : Lists} {i line : ℕ} {p : Place} {l : Lists} (w : Taking text at before i line p l)
+    (h : length text ≤ i) where
+  last : readLines (roomsOf before) [] line (readingOf p l) ≡ said (roomsOf before) (drop at text)
+  unfolding lines
+  last = rw (drop-of-length-le text h) at (w .rest)
 
-    -- before 0F
-    pub taking-stopped : (p .stage ≡ 16 → ⊥) → Took (drop at text) before (record { number = 10; line = line; n = 0; start = 0; step = 0; bad = 0 }) l
-    unfolding resultOf
-    taking-stopped f =
-        let e : said (roomsOf before) (drop at text) ≡ refused 10 line = sym last ∙ read-stop (roomsOf before) line (readingOf p l) f in
-        record { same = w .same; answer = rw e; lists = λ z. absurd (omega arith) }
+  -- before 0F
+  pub taking-stopped : (p .stage ≡ 16 → ⊥) → Took (drop at text) before (record { number = 10; line = line; n = 0; start = 0; step = 0; bad = 0 }) l
+  unfolding resultOf
+  taking-stopped f =
+      let e : said (roomsOf before) (drop at text) ≡ refused 10 line = sym last ∙ read-stop (roomsOf before) line (readingOf p l) f in
+      record { same = w .same; answer = rw e; lists = λ z. absurd (omega arith) }
 
-    -- behind 0F
-    pub taking-ended : p .stage ≡ 16
-        → Took (drop at text) before (record { number = 0; line = 0; n = p .n; start = p .start; step = p .step; bad = p .bad }) l
-    unfolding resultOf filled
-    taking-ended f =
-        let e : said (roomsOf before) (drop at text) ≡ file (readingOf p l) = sym last ∙ read-end (roomsOf before) line (readingOf p l) f in
-        let v = w .lie in
-        record {
-          same = w .same;
-          answer = rw e
-              (rw (
-                length-take-le (p .start) (l .start) (v .start .fits),
-                length-take-le (p .step) (l .step) (v .step .fits),
-                length-take-le (p .bad) (l .bad) (v .bad .fits),
-              ));
-          lists = λ z. rw e
-              (lists-same l _ _ _ (over-same (p .start) (l .start) (before .start) (v .start) (w .same .start))
-              (over-same (p .step) (l .step) (before .step) (v .step) (w .same .step))
-              (over-same (p .bad) (l .bad) (before .bad) (v .bad) (w .same .bad)));
-        }
+  -- behind 0F
+  pub taking-ended : p .stage ≡ 16
+      → Took (drop at text) before (record { number = 0; line = 0; n = p .n; start = p .start; step = p .step; bad = p .bad }) l
+  unfolding resultOf filled
+  taking-ended f =
+      let e : said (roomsOf before) (drop at text) ≡ file (readingOf p l) = sym last ∙ read-end (roomsOf before) line (readingOf p l) f in
+      let v = w .lie in
+      record {
+        same = w .same;
+        answer = rw e
+            (rw (
+              length-take-le (p .start) (l .start) (v .start .fits),
+              length-take-le (p .step) (l .step) (v .step .fits),
+              length-take-le (p .bad) (l .bad) (v .bad .fits),
+            ));
+        lists = λ z. rw e
+            (lists-same l _ _ _ (v .start .rest ∙ over-same _ _ _ (w .same .start))
+            (v .step .rest ∙ over-same _ _ _ (w .same .step))
+            (v .bad .rest ∙ over-same _ _ _ (w .same .bad)));
+      }

@@ -4,7 +4,7 @@ use mathlib.Core.List.{List, []}
 use mathlib.Core.Path.{_≡_}
 use lib.ListN.{length}
 use Rattle.call.specs.Call.{over}
-use Rattle.house.specs.File.{Rooms, Reading, Said, file, refused, said}
+use Rattle.house.specs.File.{Rooms, Said, file, refused, said}
 use Rattle.house.specs.declared.House.{House}
 
 -- the lent clause stores

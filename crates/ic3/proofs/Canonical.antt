@@ -9,13 +9,13 @@ use mathlib.Core.Path.{_≡_, refl}
 use native.Mathlib.Omega.{arith}
 use lib.ListN.{length}
 use Rattle.ic3.specs.Model.{Model, Least, Answers}
-use Rattle.ic3.specs.Search.{Entry, levelOf, put, R, Phase, look, settle, raise, wanted, noRoom, Move, go, stop, settled, tested, found, deeper, fits, kept, react, searched}
+use Rattle.ic3.specs.Search.{Entry, levelOf, put, R, Phase, look, settle, raise, wanted, Move, go, settled, tested, found, deeper, kept, react, searched}
 use Rattle.ic3.specs.Demands.{Reach, starts, steps, Leads, Unsafe}
 use Rattle.ic3.specs.Canonical.{Within, LeastFrom, Canonical, CanonicalPath}
 use Rattle.ic3.proofs.Tests.{clash, first-false}
 use Rattle.ic3.proofs.Least.{order}
 use Rattle.ic3.proofs.Frames.{Frames, leads-state, level-inside, reach-level}
-use Rattle.ic3.proofs.Round.{Lands, round-lands, tested-lands}
+use Rattle.ic3.proofs.Round.{Lands, round-lands, tested-lands, kept-lands}
 use Rattle.ic3.proofs.Sound.{Kept, Stands, Then, search-keeps}
 
 module _ (M : Model) where
@@ -56,13 +56,12 @@ module _ (M : Model) where
     deeper-least N st K (suc k) s ds t q c a = (none-below N st K (suc k) (λ u. M .step u s) t (a .first), c)
 
     kept-least : (N : ℕ) (st : List Entry) (k s : ℕ) (ds : List ℕ) (q : ℕ) → LeastFrom M (suc k) s ds → P q (kept room N st k ds)
-    unfolding kept settled
-    kept-least N st k s ds q c = pick (fits room st) ds c
+    unfolding settled
+    kept-least N st k s ds q c = kept-lands (P q) room N st k ds (λ h. rest ds c) (λ h. tt)
       where
-        pick : (b : Bool) (xs : List ℕ) → LeastFrom M (suc k) s xs → P q (elim b [ true ↦ go (settled N st k xs) | false ↦ stop noRoom ])
-        pick true [] c = tt
-        pick true (x ∷ xs) c = c .1
-        pick false xs c = tt
+        rest : (xs : List ℕ) → LeastFrom M (suc k) s xs → P q (go (settled N st k xs))
+        rest [] c = tt
+        rest (x ∷ xs) c = c .1
 
     round-least : (N : ℕ) (st : List Entry) (i q : ℕ) → Lands (P q) N st i
     round-least N st i q = record { next-level = λ j s todo a b e g. tt; gap = λ j a b g. tt; again = λ e t. tt }
@@ -87,14 +86,14 @@ module _ (M : Model) where
     pub path-canonical : CanonicalPath M (searched M room allowance .verdict)
     path-canonical = search-keeps M room allowance C (λ v q. CanonicalPath M v) react-least (λ N st ph K w c. tt) tt
 
+  within-now : {k s : ℕ} → Reach M k s → Within M k s
+  within-now {k} r = record { distance = k; few = omega arith; reach = r }
+
   -- two of the same length, state by state from the end
   same-states : (k s s' : ℕ) (xs xs' : List ℕ) → length xs ≡ length xs' → Reach M k s → Reach M k s' → Leads M s xs → Leads M s' xs'
       → LeastFrom M k s xs → LeastFrom M k s' xs' → (s ≡ s') × (xs ≡ xs')
   same-states k s s' [] [] e r r' w w' l l' =
-      (order s s' (λ h. l' s h (w .1) (now r)) (λ h. l s' h (w' .1) (now r')), refl)
-    where
-      now : {x : ℕ} → Reach M k x → Within M k x
-      now q = record { distance = k; few = omega arith; reach = q }
+      (order s s' (λ h. l' s h (w .1) (within-now r)) (λ h. l s' h (w' .1) (within-now r')), refl)
   same-states k s s' [] (x ∷ xs') e r r' w w' l l' = absurd (omega arith)
   same-states k s s' (x ∷ xs) [] e r r' w w' l l' = absurd (omega arith)
   same-states k s s' (t ∷ xs) (t' ∷ xs') e r r' w w' l l' =
@@ -102,10 +101,7 @@ module _ (M : Model) where
       (steps r' (leads-state M t' xs' (w' .2)) (w' .1)) (w .2) (w' .2) (l .1) (l' .1) in
       let q : t ≡ t' = rest .0 in
       let z : xs ≡ xs' = rest .1 in
-      (order s s' (λ h. l' .0 s h (rw q at (w .1)) (now r)) (λ h. l .0 s' h (rw (← q) at (w' .1)) (now r')), cc)
-    where
-      now : {x : ℕ} → Reach M k x → Within M k x
-      now q = record { distance = k; few = omega arith; reach = q }
+      (order s s' (λ h. l' .0 s h (rw q at (w .1)) (within-now r)) (λ h. l .0 s' h (rw (← q) at (w' .1)) (within-now r')), cc)
 
   -- no two shortest paths are canonical
   pub canonical-unique : (p q : List ℕ) → Unsafe M p → Canonical M p → Unsafe M q → Canonical M q → p ≡ q

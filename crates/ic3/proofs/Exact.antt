@@ -1,6 +1,6 @@
--- Beyond demand 3: the exact bound. By the account, N ≤ m, fewer than m states were stored at the end of the last round, and the sum of the
--- levels is at most N for each stored state; so one question more stays within 2 m m + 2 m + 1, or within 2 where nothing is doomed. Assumes
--- nothing.
+-- The exact bound, from which demand 3 follows (Bound). By the account, N ≤ m, fewer than m states were stored at the end of the last round, and
+-- the sum of the levels is at most N for each stored state; so one question more stays within 2 m m + 2 m + 1, or within 2 where nothing is
+-- doomed. Assumes nothing.
 use Prim.Native.Nat.{ℕ, zero, suc, _+_, _*_, _-_, _≤_}
 use mathlib.Core.Bool.{true}
 use mathlib.Core.List.{List, [], _∷_}
@@ -15,13 +15,14 @@ use Rattle.ic3.specs.Search.{Entry, levelOf, put, states, Phase, look, s
 use Rattle.ic3.specs.Demands.{listed, Doomed, Number, Bounded}
 use Rattle.ic3.specs.Exact.{exact}
 use Rattle.ic3.proofs.Tests.{test}
-use Rattle.ic3.proofs.Store.{put-tidy, stored-put, put-new, total, total-low, listed-none, states-fall}
+use Rattle.ic3.proofs.Store.{put-tidy, stored-put, put-new, total, total-low, total-cap, listed-none, states-fall}
 use Rattle.ic3.proofs.Frames.{leads-no-start}
 use Rattle.ic3.proofs.Sound.{Kept, Sits, Stands, level-low, duty-doomed}
 use Rattle.ic3.proofs.Cost.{bounded}
-use Rattle.ic3.proofs.ExactSums.{pushed-sum, opened-sum, total-cap}
+use Rattle.ic3.proofs.ExactSums.{pushed-sum, opened-sum}
 use Rattle.ic3.proofs.ExactAccount.{Sown, Fresh, first, grew, lacks, Opened, Testing, C}
-use Rattle.ic3.proofs.ExactKept.{stored-few, done-few, tested-sown, react-exact}
+use Rattle.ic3.proofs.ExactRound.{tested-sown}
+use Rattle.ic3.proofs.ExactKept.{stored-few, done-few, react-exact}
 
 module _ (M : Model) (m : ℕ) (D : Number (Doomed M) m) where
   -- fewer than m states were stored at the end of the last round
@@ -84,7 +85,7 @@ module _ (M : Model) (m : ℕ) (D : Number (Doomed M) m) where
   testing-more : (N : ℕ) (st : List Entry) (i s : ℕ) (todo : List ℕ) (q : ℕ) → Kept M (suc N) st → Sits M (suc N) st i s
       → Testing M N st i (s ∷ todo) q → suc q ≤ exact m
   testing-more N st i s todo q K w c =
-      let h : 1 ≤ m = doomed-some s (tested-sown M m D N st i s todo w q c .doomed) in
+      let h : 1 ≤ m = doomed-some s (tested-sown M m N st i s todo w q c .doomed) in
       let l : length st ≤ m = stored-few M m D N st (K .tidy) (c .sown) in
       let z : N + (m - N) ≡ m = omega (arith, c .enough) in
       let x : suc q ≤ 2 * (m * m) + 2 * m + 1 = rw z at (pushed-sum N (m - N) (length st) (total st) (length (states (leb (suc N)) st))

@@ -7,18 +7,18 @@
 -- at the end of the last round, n = N - 1 and `done` the states settled at this N:
 --   in steps 2 and 3              q + n n ≤ 1 + 2 n + T + 2 n p + |done| + open duties
 --   in step 4 after N rounds      q + (those still to be tested at i, and those above i) + N N ≤ 1 + 2 N + T + 2 N σ
--- That each answer keeps it is ExactKept. Assumes nothing.
+-- That each answer keeps it is shown in ExactRound and ExactKept. Assumes nothing.
 use Prim.Native.Nat.{ℕ, zero, suc, _+_, _*_, max, _≤_, _<_}
 use mathlib.Core.Bool.{true}
 use mathlib.Core.List.{List, [], _∷_}
-use mathlib.Core.Path.{_≡_}
+use mathlib.Core.Path.{_≡_, _∙_}
 use native.Mathlib.Omega.{arith}
 use lib.Dec.{leb}
 use lib.ListN.{length}
 use Rattle.ic3.specs.Model.{Model}
-use Rattle.ic3.specs.Search.{Entry, levelOf, states, Phase, look, settle, raise}
+use Rattle.ic3.specs.Search.{Entry, levelOf, put, states, Phase, look, settle, raise}
 use Rattle.ic3.specs.Demands.{Leads, listed, Doomed, Distinct}
-use Rattle.ic3.proofs.Store.{Stored, total}
+use Rattle.ic3.proofs.Store.{level-put-other, Stored, total}
 
 module _ (M : Model) where
   -- s is no start state and leads to a bad one in fewer than N steps
@@ -41,6 +41,17 @@ module _ (M : Model) where
     pub onward : List ℕ
     pub leads : Leads M state onward
     pub short : length onward ≤ n
+
+  -- it stays so while another state is stored or raised
+  pub missing-still : (n : ℕ) (st : List Entry) (s k : ℕ) (x : Missing n st) → (x .state ≡ s → ⊥) → Missing n (put st s k)
+  missing-still n st s k x f =
+      record {
+        state = x .state;
+        unstored = level-put-other st s k (x .state) f ∙ x .unstored;
+        onward = x .onward;
+        leads = x .leads;
+        short = x .short;
+      }
 
   -- after n rounds, with p states stored at the end of the last: a further state has been stored, or one is still to be stored
   pub data Fresh (n p : ℕ) (st : List Entry) : Type 0 where

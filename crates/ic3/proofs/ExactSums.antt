@@ -1,14 +1,7 @@
 -- The arithmetic of the exact bound: what the accounts of ExactAccount come to when N is n + 1, or N, and m is N + d. Assumes nothing.
 use Prim.Native.Nat.{ℕ, zero, suc, _+_, _*_, _≤_}
-use mathlib.Core.List.{List, [], _∷_}
 use native.Mathlib.Omega.{arith}
 use native.Mathlib.Nat.{mul-suc, suc-mul, mul-add, add-mul, mul-comm, mul-le-mul}
-use borrow.Author.Tests.{leb-false, eqb-true, eqb-false}
-use lib.Dec.{eqb, leb}
-use lib.ListN.{length}
-use Rattle.ic3.specs.Search.{Entry, levelOf, put, states}
-use Rattle.ic3.proofs.Tests.{test}
-use Rattle.ic3.proofs.Store.{Tidy, put-new, put-old, total, rest-level}
 
 pub pushed-sum : (N d σ t a u q : ℕ) → σ ≤ N + d → t ≤ N * σ + a → suc a ≤ u → q + u + N * N ≤ 1 + 2 * N + t + 2 * (N * σ)
     → suc q ≤ 2 * ((N + d) * (N + d)) + 2 * (N + d) + 1
@@ -42,21 +35,3 @@ round-sum n p σ t o q h l b = omega (arith, further n h, mul-suc n p, suc-mul n
     further : (n : ℕ) → (1 ≤ n → suc p ≤ σ) → n * suc p ≤ n * σ
     further zero h = omega arith
     further (suc n) h = mul-le-mul (omega arith) (h (omega arith))
-
--- all levels are at most n + 1
-pub total-cap : (n : ℕ) (st : List Entry) → Tidy st → ((s : ℕ) → levelOf st s ≤ suc n)
-    → total st ≤ n * length st + length (states (leb (suc n)) st)
-unfolding total states
-total-cap n [] w h = omega arith
-total-cap n (x ∷ es) w h =
-    let r = rest-level x es w (suc n) h in
-    let b : total es ≤ n * length es + length (states (leb (suc n)) es) = total-cap n es (w .2) (r .1) in
-    test (leb (suc n) (x .level))
-    (λ e. rw (e, states) (omega (arith, r .0, mul-suc n (length es))))
-    (λ e. rw (e, states) (omega (arith, mul-suc n (length es), leb-false (suc n) (x .level) e)))
-
-pub put-more : (st : List Entry) (s k : ℕ) → Tidy st → length st ≤ length (put st s k)
-put-more st s k w =
-    test (eqb (levelOf st s) 0)
-    (λ e. omega (arith, put-new st s k w (eqb-true (levelOf st s) 0 e)))
-    (λ e. omega (arith, put-old st s k (omega (arith, eqb-false (levelOf st s) 0 e))))

@@ -1,19 +1,19 @@
 -- What code needs so that its indices hold: the stored states never outgrow the room, N stays near it, and evidence and path fit the lent
 -- stores. A round that leaves a state at each level below N shows N - 1 of them, and they are within the room. Assumes nothing.
 use Prim.Native.Nat.{ℕ, zero, suc, _+_, _≤_, _<_}
-use mathlib.Core.Bool.{Bool, true, false, not, _||_}
+use mathlib.Core.Bool.{not, _||_}
 use mathlib.Core.List.{List, [], _∷_}
 use mathlib.Core.Option.{Option, none, some}
-use mathlib.Core.Path.{_≡_, refl}
+use mathlib.Core.Path.{_≡_}
 use native.Mathlib.Omega.{arith}
 use borrow.Author.Tests.{eqb-true, eqb-false, le-leb}
 use lib.Dec.{eqb, leb, ltb}
 use lib.ListN.{length}
 use Rattle.ic3.specs.Model.{Model, Answers}
-use Rattle.ic3.specs.Search.{Entry, levelOf, put, Phase, look, settle, raise, wanted, Verdict, safe, unsafe, noRoom, spent, Move, go, stop, settled, tested, found, deeper, fits, kept, react, searched}
+use Rattle.ic3.specs.Search.{Entry, levelOf, put, Phase, look, settle, raise, wanted, Verdict, safe, unsafe, noRoom, spent, Move, go, settled, tested, found, deeper, fits, kept, react, searched}
 use Rattle.ic3.proofs.Tests.{test}
-use Rattle.ic3.proofs.Store.{Tidy, put-new, put-old, fits-true, states-length}
-use Rattle.ic3.proofs.Round.{Lands, round-lands, tested-lands, taken-length}
+use Rattle.ic3.proofs.Store.{Tidy, put-new, put-old, states-length}
+use Rattle.ic3.proofs.Round.{Lands, round-lands, tested-lands, kept-lands, taken-length}
 use Rattle.ic3.proofs.Sound.{Kept, Stands, Then, search-keeps}
 
 -- The store outgrows the room exactly if a state must be stored anew and the store is full; raising a level needs no room.
@@ -71,14 +71,12 @@ module _ (M : Model) (room : ℕ) where
     deeper-fits N st (suc k) s ds t q e w = w
 
     kept-fits : (N : ℕ) (st : List Entry) (k : ℕ) (ds : List ℕ) (q : ℕ) → N ≤ suc room → FitsMove q (kept room N st k ds)
-    unfolding kept settled
-    kept-fits N st k ds q h = pick (fits room st) (fits-true room st) ds
+    unfolding settled
+    kept-fits N st k ds q h = kept-lands (FitsMove q) room N st k ds (λ l. rest ds (record { stored = l; low = h })) (λ l. tt)
       where
-        pick : (b : Bool) → (b ≡ true → length st ≤ room) → (xs : List ℕ)
-            → FitsMove q (elim b [ true ↦ go (settled N st k xs) | false ↦ stop noRoom ])
-        pick true f [] = record { stored = f refl; low = h }
-        pick true f (x ∷ xs) = record { stored = f refl; low = h }
-        pick false f xs = tt
+        rest : (xs : List ℕ) → Within N st (suc room) → FitsMove q (go (settled N st k xs))
+        rest [] w = w
+        rest (x ∷ xs) w = w
 
     pub react-fits : (N : ℕ) (st : List Entry) (ph : Phase) (o : Option ℕ) (q : ℕ) → Kept M N st → Stands M N st ph
         → Answers (M .size) (wanted M N st ph) o → Fits N st ph q → FitsMove (suc q) (react room N st ph o)

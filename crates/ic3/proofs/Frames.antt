@@ -25,7 +25,7 @@ module _ (M : Model) where
     pub barred : (s : ℕ) → s < M .size → M .bad s ≡ true → N ≤ suc (f s)
     pub bad-start : (s : ℕ) → s < M .size → M .bad s ≡ true → 1 ≤ N → M .start s ≡ false
 
-  pub reach-state : {k s : ℕ} → Reach M k s → s < M .size
+  reach-state : {k s : ℕ} → Reach M k s → s < M .size
   reach-state (starts h e) = h
   reach-state (steps r h e) = h
 
@@ -40,7 +40,7 @@ module _ (M : Model) where
     pub bad : M .bad state ≡ true
 
   -- a way to a bad state, from a reached one
-  pub leads-hit : (n : ℕ) {k s : ℕ} (xs : List ℕ) → n ≡ k + length xs → Reach M k s → Leads M s xs → Hit n
+  leads-hit : (n : ℕ) {k s : ℕ} (xs : List ℕ) → n ≡ k + length xs → Reach M k s → Leads M s xs → Hit n
   leads-hit n {k} {s} [] e r w = let q : k ≡ n = omega arith in record { state = s; reach = rw q at r; bad = w .1 }
   leads-hit n (t ∷ xs) e r w = leads-hit n xs (omega arith) (steps r (leads-state t xs (w .2)) (w .1)) (w .2)
 
@@ -173,7 +173,7 @@ module _ (M : Model) where
             (λ j. omega (arith, F .up s t b d q, leb-false i (f s) (rw (is s) at e), eqb-false (f t) i j))
 
   -- right evidence excludes no reachable state
-  pub excluded-unreached : (out : ℕ → Bool) → Excludes M out → {k s : ℕ} → Reach M k s → out s ≡ false
+  excluded-unreached : (out : ℕ → Bool) → Excludes M out → {k s : ℕ} → Reach M k s → out s ≡ false
   excluded-unreached out X (starts {s = s} h e) = X .no-start s h e
   excluded-unreached out X (steps {s = s} {t = t} r h e) =
       X .closed s t (reach-state r) h (excluded-unreached out X r) e

@@ -1,7 +1,7 @@
--- Questions have one right answer, and `least` gives it. From that follow the two laws by which code answers a question: a forced bit leaves
--- the same states, and a tried bit splits the states into a lower and an upper half. Assumes nothing.
+-- Questions have one right answer, and `least` gives it: of two answers that differ, one would say of the other's state that it does not fulfil the
+-- condition. So conditions that the same states fulfil have the same answer. Assumes nothing.
 use Prim.Native.Nat.{ℕ, zero, suc, _<_}
-use mathlib.Core.Bool.{Bool, true, false, _||_}
+use mathlib.Core.Bool.{Bool, true, false}
 use mathlib.Core.Option.{Option, none, some}
 use mathlib.Core.Path.{_≡_, refl, ap, _∙_}
 use native.Mathlib.Omega.{arith}
@@ -40,7 +40,7 @@ answers-unique k p (some s) (some t) a b =
 pub least-is : (k : ℕ) (p : ℕ → Bool) (o : Option ℕ) → Answers k p o → least k p ≡ o
 least-is k p o a = answers-unique k p (least k p) o (least-answers k p) a
 
--- forced: the same states fulfil both conditions
+-- the same states fulfil both conditions
 pub least-same : (k : ℕ) (p q : ℕ → Bool) → ((s : ℕ) → s < k → p s ≡ q s) → least k p ≡ least k q
 least-same k p q h = least-is k p (least k q) (turn (least k q) (least-answers k q))
   where
@@ -51,48 +51,4 @@ least-same k p q h = least-is k p (least k q) (turn (least k q) (least-answers k
           state = a .state;
           fulfils = h t (a .state) ∙ a .fulfils;
           first = λ s b. h s (omega (arith, a .state)) ∙ a .first s b;
-        }
-
--- the first answer that names a state
-unfoldable pub orElse : Option ℕ → Option ℕ → Option ℕ
-orElse none r = r
-orElse (some s) r = some s
-
--- tried: the states of one half lie below those of the other
-pub least-split : (k : ℕ) (p a b : ℕ → Bool) → ((s : ℕ) → s < k → p s ≡ (a s || b s))
-    → ((s t : ℕ) → s < k → t < k → a s ≡ true → b t ≡ true → s < t) → least k p ≡ orElse (least k a) (least k b)
-unfolding orElse
-least-split k p a b h l =
-    least-is k p (orElse (least k a) (least k b)) (turn (least k a) (least k b) (least-answers k a) (least-answers k b))
-  where
-    neither : (x y z : Bool) → z ≡ (x || y) → x ≡ false → y ≡ false → z ≡ false
-    neither true y z e f g = clash refl f
-    neither false y z e f g = e ∙ g
-
-    left : (x y z : Bool) → z ≡ (x || y) → x ≡ true → z ≡ true
-    left true y z e f = e
-    left false y z e f = clash f refl
-
-    right : (x y z : Bool) → z ≡ (x || y) → x ≡ false → y ≡ true → z ≡ true
-    right true y z e f g = clash refl f
-    right false y z e f g = e ∙ g
-
-    turn : (o r : Option ℕ) → Answers k a o → Answers k b r → Answers k p (orElse o r)
-    turn none none u v = λ s c. neither (a s) (b s) (p s) (h s c) (u s c) (v s c)
-    turn none (some t) u v =
-        record {
-          state = v .state;
-          fulfils = right (a t) (b t) (p t) (h t (v .state)) (u t (v .state)) (v .fulfils);
-          first = λ s c.
-              let d : s < k = omega (arith, v .state) in
-              neither (a s) (b s) (p s) (h s d) (u s d) (v .first s c);
-        }
-    turn (some t) r u v =
-        record {
-          state = u .state;
-          fulfils = left (a t) (b t) (p t) (h t (u .state)) (u .fulfils);
-          first = λ s c.
-              let d : s < k = omega (arith, u .state) in
-              neither (a s) (b s) (p s) (h s d) (u .first s c)
-              (test (b s) (λ e. absurd (omega (arith, l t s (u .state) d (u .fulfils) e))) (λ e. e));
         }

@@ -1,4 +1,4 @@
--- The root of the theorems, in the order in which they lean on one another. Nothing else leans on Canonical, Exact and Chain.
+-- The root of the theorems, in the order in which they lean on one another. Nothing else leans on Sentences, Canonical and Chain.
 pub mod Tests
 pub mod Least
 pub mod Store
@@ -8,12 +8,13 @@ pub mod Run
 pub mod Sound
 pub mod Number
 pub mod Cost
+pub mod ExactSums
+pub mod ExactAccount
+pub mod ExactRound
+pub mod ExactKept
+pub mod Exact
 pub mod Bound
 pub mod Fit
 pub mod Sentences
 pub mod Canonical
-pub mod ExactSums
-pub mod ExactAccount
-pub mod ExactKept
-pub mod Exact
 pub mod Chain

@@ -2,18 +2,18 @@
 -- bad or steps into it; it holds no number twice, so it is no longer than the number of states and comes to an end. Those of it that are no
 -- start states are the ones to be counted. Assumes nothing: the list is computed.
 use Prim.Native.Nat.{ℕ, zero, suc, _+_, _≤_, _<_}
-use mathlib.Core.Bool.{Bool, true, false, not, _&&_, _||_}
+use mathlib.Core.Bool.{Bool, true, false, not, _&&_, _||_, and-false, or-true}
 use mathlib.Core.List.{List, [], _∷_}
 use mathlib.Core.Option.{Option, none, some}
 use mathlib.Core.Path.{_≡_, refl, sym, ap, _∙_}
 use native.Mathlib.Omega.{arith}
-use borrow.Author.Tests.{leb-true, eqb-true, eqb-false}
+use borrow.Author.Tests.{leb-true, eqb-true, eqb-false, not-true, not-false}
 use lib.Dec.{eqb, leb}
 use lib.ListN.{length}
 use Rattle.ic3.specs.Model.{Model, least, Answers}
 use Rattle.ic3.specs.Search.{Entry, states}
 use Rattle.ic3.specs.Demands.{Leads, listed, Doomed, Distinct, Number}
-use Rattle.ic3.proofs.Tests.{test, clash, both}
+use Rattle.ic3.proofs.Tests.{test, clash, both, first-false}
 use Rattle.ic3.proofs.Least.{least-answers}
 use Rattle.ic3.proofs.Store.{Tidy, Stored, listed-none, listed-head, listed-tail, listed-other, states-listed, states-distinct, states-all, inside-length}
 use Rattle.ic3.proofs.Frames.{leads-state}
@@ -91,11 +91,7 @@ module _ (M : Model) where
 
   fresh-new : (l : List ℕ) (s : ℕ) → fresh l s ≡ true → listed l s ≡ false
   unfolding fresh
-  fresh-new l s e = pick (listed l s) (both (not (listed l s)) (M .bad s || into l s) e .0)
-    where
-      pick : (a : Bool) → not a ≡ true → a ≡ false
-      pick true g = clash refl (sym g)
-      pick false g = refl
+  fresh-new l s e = not-true (listed l s) (both (not (listed l s)) (M .bad s || into l s) e .0)
 
   fresh-lead : (l : List ℕ) → ((t : ℕ) → listed l t ≡ true → Lead t) → (s : ℕ) → s < M .size → fresh l s ≡ true → Lead s
   unfolding fresh
@@ -133,21 +129,13 @@ module _ (M : Model) where
           (λ e. f s (sym (listed-other l x s (eqb-false s x e)) ∙ n)))
 
   -- such a list has every state that leads to a bad one
-  full-has : (l : List ℕ) → Full l → (s : ℕ) (xs : List ℕ) → Leads M s xs → listed l s ≡ true
+  full-one : (l : List ℕ) → Full l → (s : ℕ) → s < M .size → (M .bad s || into l s) ≡ true → listed l s ≡ true
   unfolding fresh
-  full-has l F s [] w = pick (listed l s) (M .bad s) (F .full s (w .0)) (w .1)
-    where
-      pick : (a b : Bool) → (not a && (b || into l s)) ≡ false → b ≡ true → a ≡ true
-      pick true b g k = refl
-      pick false true g k = clash refl g
-      pick false false g k = clash k refl
-  full-has l F s (t ∷ xs) w =
-      pick (listed l s) (M .bad s) (into l s) (F .full s (w .0)) (into-true l s t (full-has l F t xs (w .2)) (w .1))
-    where
-      pick : (a b c : Bool) → (not a && (b || c)) ≡ false → c ≡ true → a ≡ true
-      pick true b c g k = refl
-      pick false true c g k = clash refl g
-      pick false false c g k = clash k g
+  full-one l F s h e = not-false (listed l s) (first-false (not (listed l s)) (M .bad s || into l s) (F .full s h) e)
+
+  full-has : (l : List ℕ) → Full l → (s : ℕ) (xs : List ℕ) → Leads M s xs → listed l s ≡ true
+  full-has l F s [] w = full-one l F s (w .0) (rw (w .1))
+  full-has l F s (t ∷ xs) w = full-one l F s (w .0) (rw (into-true l s t (full-has l F t xs (w .2)) (w .1)) (or-true (M .bad s)))
 
   -- those of a list that are no start states
   others : List ℕ → List ℕ
@@ -165,10 +153,6 @@ module _ (M : Model) where
       (λ q. rw (q, others) (test (eqb x s)
       (λ e. let z : M .start s ≡ false = rw (← eqb-true x s e) q in rw (e, listed) (rw z))
       (λ e. rw (e, listed) (others-listed xs s))))
-    where
-      and-false : (a : Bool) → (a && false) ≡ false
-      and-false true = refl
-      and-false false = refl
 
   others-distinct : (l : List ℕ) → Distinct l → Distinct (others l)
   unfolding others
@@ -181,11 +165,6 @@ module _ (M : Model) where
   pub doomed-number : (m : ℕ) × Number (Doomed M) m
   doomed-number = made (grow (suc (M .size)) [] (omega arith) tt (λ s n. listed-none s n))
     where
-      no-start : (a b : Bool) → (a && not b) ≡ true → (a ≡ true) × (b ≡ false)
-      no-start true true e = clash refl (sym e)
-      no-start true false e = (refl, refl)
-      no-start false b e = clash e refl
-
       made : (r : List ℕ) × Full r → (m : ℕ) × Number (Doomed M) m
       made (l, F) = (
         length (others l),
@@ -193,9 +172,9 @@ module _ (M : Model) where
           those = others l;
           distinct = others-distinct l (F .distinct);
           exact = λ s. (
-            λ n. let e = no-start (listed l s) (M .start s) (sym (others-listed l s) ∙ n) in
+            λ n. let e = both (listed l s) (not (M .start s)) (sym (others-listed l s) ∙ n) in
                 let r = F .lead s (e .0) in
-                record { no-start = e .1; onward = r .onward; leads = r .leads },
+                record { no-start = not-true (M .start s) (e .1); onward = r .onward; leads = r .leads },
             λ d. others-listed l s ∙ rw (full-has l F s (d .onward) (d .leads), d .no-start),
           );
           many = refl;

@@ -1,6 +1,7 @@
 -- Where steps 4 and 5 come to the next question, in one law for whatever is to be shown of it: at the next stored state that sits at a level
 -- below N, all levels between being empty; or, with all those levels empty, at the first level that no state has, which ends the search with
--- safe; or at step 2 with a state at every level below N. Each part goes along its definition. Assumes nothing.
+-- safe; or at step 2 with a state at every level below N. Each part goes along its definition. The same for a settled duty: it is kept, or there is
+-- no room. Assumes nothing.
 use Prim.Native.Nat.{ℕ, zero, suc, _+_, _-_, _≤_, _<_}
 use mathlib.Core.Bool.{Bool, true, false}
 use mathlib.Core.List.{List, [], _∷_}
@@ -9,10 +10,10 @@ use native.Mathlib.Omega.{arith}
 use borrow.Author.Tests.{eqb-true, eqb-false, eq-eqb, ne-eqb}
 use lib.Dec.{eqb, leb}
 use lib.ListN.{length}
-use Rattle.ic3.specs.Search.{Entry, levelOf, states, look, raise, at, safe, Move, go, stop, judge, round, tested}
+use Rattle.ic3.specs.Search.{Entry, levelOf, states, look, raise, at, safe, noRoom, Move, go, stop, judge, round, tested, settled, fits, kept}
 use Rattle.ic3.specs.Demands.{listed}
 use Rattle.ic3.proofs.Tests.{test, clash}
-use Rattle.ic3.proofs.Store.{Tidy, listed-head, listed-other, states-listed, states-split, states-length}
+use Rattle.ic3.proofs.Store.{Tidy, fits-true, fits-false, listed-head, listed-other, states-listed, states-split, states-length}
 
 -- no stored state has a level from i up to below j
 abbrev pub Empty : List Entry → ℕ → ℕ → Type 0
@@ -93,6 +94,15 @@ module _ (P : Move → Type 0) (N : ℕ) (st : List Entry) where
             same-level = λ x rest e l k. p .same-level x rest e (omega arith) (λ t z m. k t z (skip q t z m));
             next-levels = λ k. p .next-levels (λ t z m. k t z (skip q t z m));
           })
+
+-- Where a duty was settled: the search goes on, or the store has outgrown the room.
+pub kept-lands : (P : Move → Type 0) (room N : ℕ) (st : List Entry) (k : ℕ) (ds : List ℕ) → (length st ≤ room → P (go (settled N st k ds)))
+    → (room < length st → P (stop noRoom)) → P (kept room N st k ds)
+unfolding kept
+kept-lands P room N st k ds f g =
+    test (fits room st)
+    (λ e. rw (e, kept) (f (fits-true room st e)))
+    (λ e. rw (e, kept) (g (fits-false room st e)))
 
 -- no state sits at an empty level
 pub empty-level : (st : List Entry) → Tidy st → (i : ℕ) → 1 ≤ i → states (eqb i) st ≡ [] → (s : ℕ) → levelOf st s ≡ i → ⊥

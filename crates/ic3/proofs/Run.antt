@@ -1,6 +1,6 @@
 -- A search as its turns. A loop over questions keeps "the rest of the run is the whole run" by `run-out`, `run-go` and `run-stop`; and what
 -- every turn keeps holds of the ending, by recursion on the allowance. Assumes nothing.
-use Prim.Native.Nat.{ℕ, zero, suc, _+_, _≤_}
+use Prim.Native.Nat.{ℕ, zero, suc, _+_}
 use mathlib.Core.List.{[]}
 use mathlib.Core.Path.{_≡_, refl}
 use native.Mathlib.Omega.{arith}
@@ -21,29 +21,13 @@ module _ (M : Model) (room : ℕ) where
   unfolding run
   run-stop left c v q e = rw (e, run)
 
-  -- no more questions than the allowance
-  run-within : (left : ℕ) (c : Config) (q : ℕ) → run left M room c q .questions ≤ left + q
-  unfolding run
-  run-within zero c q = omega arith
-  run-within (suc left) c q = pick (next M room c) (λ d. run-within left d (suc q))
-    where
-      pick : (m : Move) → ((d : Config) → run left M room d (suc q) .questions ≤ left + suc q)
-          → (elim m as (λ x. Ending) [ go d ↦ run left M room d (suc q) | stop v ↦ record { verdict = v; questions = suc q } ]) .questions
-          ≤ suc left + q
-      pick (go d) r = omega (arith, r d)
-      pick (stop v) r = omega arith
-
-  pub searched-within : (allowance : ℕ) → searched M room allowance .questions ≤ allowance
-  unfolding searched
-  searched-within allowance = omega (arith, run-within allowance (at 0 [] look) 0)
-
 module _ (M : Model) (room allowance : ℕ) (P : Config → ℕ → Type 0) (Q : Verdict → ℕ → Type 0) where
   -- P of where the search goes on, or Q of its ending
   abbrev pub Turned : ℕ → Move → Type 0
   Turned q (go d) = P d q
   Turned q (stop v) = Q v q
 
-  pub run-keeps : ((c : Config) (q : ℕ) → P c q → Turned (suc q) (next M room c)) → ((c : Config) → P c allowance → Q spent allowance)
+  run-keeps : ((c : Config) (q : ℕ) → P c q → Turned (suc q) (next M room c)) → ((c : Config) → P c allowance → Q spent allowance)
       → (left : ℕ) (c : Config) (q : ℕ) → left + q ≡ allowance → P c q
       → Q (run left M room c q .verdict) (run left M room c q .questions)
   unfolding run

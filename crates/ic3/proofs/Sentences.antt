@@ -1,12 +1,12 @@
 -- Sentences of document 01 that follow from the definitions and the demands. Assumes nothing.
-use Prim.Native.Nat.{ℕ, suc, _+_, _*_, _≤_, _<_}
+use Prim.Native.Nat.{ℕ, zero, suc, _+_, _*_, _≤_, _<_}
 use mathlib.Core.Bool.{false}
 use mathlib.Core.List.{List, [], _∷_}
 use mathlib.Core.Path.{_≡_, refl}
 use native.Mathlib.Omega.{arith}
 use lib.ListN.{length}
 use Rattle.ic3.specs.Model.{Model}
-use Rattle.ic3.specs.Search.{Entry, Verdict, safe, unsafe, noRoom, spent, searched}
+use Rattle.ic3.specs.Search.{Entry, look, Config, at, Verdict, safe, unsafe, noRoom, spent, Move, go, stop, next, Ending, run, searched}
 use Rattle.ic3.specs.Demands.{Reach, starts, steps, IsPath, Demand-2, Doomed, Number, Answered}
 use Rattle.ic3.proofs.Tests.{clash}
 use Rattle.ic3.proofs.Frames.{leads-state}
@@ -38,3 +38,20 @@ module _ (M : Model) (no-start : (s : ℕ) → s < M .size → M .start s ≡ fa
 pub path-states : (M : Model) (N : ℕ) (st : List Entry) (s : ℕ) (ds : List ℕ) (t : ℕ) → Duty M N st 0 s ds
     → length (t ∷ (s ∷ ds)) ≡ suc N
 path-states M N st s ds t w = omega (arith, w .count)
+
+-- Before each ask, if the allowance is used up, the call ends: no search asks more questions than it has leave for.
+module _ (M : Model) (room : ℕ) where
+  run-within : (left : ℕ) (c : Config) (q : ℕ) → run left M room c q .questions ≤ left + q
+  unfolding run
+  run-within zero c q = omega arith
+  run-within (suc left) c q = pick (next M room c) (λ d. run-within left d (suc q))
+    where
+      pick : (m : Move) → ((d : Config) → run left M room d (suc q) .questions ≤ left + suc q)
+          → (elim m as (λ x. Ending) [ go d ↦ run left M room d (suc q) | stop v ↦ record { verdict = v; questions = suc q } ]) .questions
+          ≤ suc left + q
+      pick (go d) r = omega (arith, r d)
+      pick (stop v) r = omega arith
+
+  pub searched-within : (allowance : ℕ) → searched M room allowance .questions ≤ allowance
+  unfolding searched
+  searched-within allowance = omega (arith, run-within allowance (at 0 [] look) 0)

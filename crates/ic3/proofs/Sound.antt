@@ -2,7 +2,7 @@
 -- one through the states of the open duties above it, each of which sits below its level. Each answer keeps that, or ends the search with
 -- evidence that is right: a gap in the levels, or a start state in front of the open duties. Assumes nothing.
 use Prim.Native.Nat.{ℕ, zero, suc, _+_, _≤_, _<_}
-use mathlib.Core.Bool.{Bool, true, false, _&&_}
+use mathlib.Core.Bool.{false, _&&_}
 use mathlib.Core.List.{List, [], _∷_}
 use mathlib.Core.Option.{Option, none, some}
 use mathlib.Core.Path.{_≡_, sym, _∙_}
@@ -11,13 +11,13 @@ use borrow.Author.Tests.{leb-true, leb-false, lt-leb, eqb-true, eqb-false}
 use lib.Dec.{eqb, leb}
 use lib.ListN.{length}
 use Rattle.ic3.specs.Model.{Model, least, Least, Answers}
-use Rattle.ic3.specs.Search.{Entry, levelOf, put, states, R, Phase, look, settle, raise, Config, at, wanted, Verdict, noRoom, spent, Move, go, stop, settled, tested, found, deeper, fits, kept, react, next, searched}
+use Rattle.ic3.specs.Search.{Entry, levelOf, put, states, R, Phase, look, settle, raise, Config, at, wanted, Verdict, spent, Move, go, stop, settled, tested, found, deeper, react, next, searched}
 use Rattle.ic3.specs.Demands.{Leads, listed, Safe, Demand-2, Doomed}
 use Rattle.ic3.proofs.Tests.{test, clash, both, first-false}
 use Rattle.ic3.proofs.Least.{least-answers}
 use Rattle.ic3.proofs.Store.{level-put, level-put-other, Tidy, put-tidy, Stored, stored-put, states-listed}
 use Rattle.ic3.proofs.Frames.{Frames, leads-state, path-hit, inside-level, frames-none, hit-late, leads-no-start, frames-grown, frames-raised, gap-excludes, excludes-never}
-use Rattle.ic3.proofs.Round.{Lands, round-lands, tested-lands, empty-level, level-head}
+use Rattle.ic3.proofs.Round.{Lands, round-lands, tested-lands, kept-lands, empty-level, level-head}
 use Rattle.ic3.proofs.Run.{Turned, searched-keeps}
 
 module _ (M : Model) where
@@ -96,14 +96,14 @@ module _ (M : Model) where
         }
 
     -- a duty whose state nothing of R(k) steps to
-    pub blocked-kept : (k s : ℕ) (ds : List ℕ) → Duty N st k s ds
+    blocked-kept : (k s : ℕ) (ds : List ℕ) → Duty N st k s ds
         → ((t : ℕ) → t < M .size → (R M (levelOf st) k t && M .step t s) ≡ false) → Kept N (put st s (suc k))
     blocked-kept k s ds w free =
         put-kept s k (omega (arith, w .count)) (omega (arith, w .under .0)) (leads-state M s ds (w .leads))
         (duty-doomed k s ds w .no-start) free
 
     -- a stored state that nothing of R(i) steps to
-    pub raised-kept : (i s : ℕ) → Sits N st i s
+    raised-kept : (i s : ℕ) → Sits N st i s
         → ((t : ℕ) → t < M .size → (R M (levelOf st) i t && M .step t s) ≡ false) → Kept N (put st s (suc i))
     raised-kept i s w free =
         let b : s < M .size = K .states s (omega (arith, w .above, w .here)) in
@@ -196,14 +196,6 @@ module _ (M : Model) where
     },
   )
 
-  kept-fine : (room N : ℕ) (st : List Entry) (k : ℕ) (ds : List ℕ) → Fine (go (settled N st k ds)) → Fine (kept room N st k ds)
-  unfolding kept
-  kept-fine room N st k ds f = pick (fits room st)
-    where
-      pick : (b : Bool) → Fine (elim b [ true ↦ go (settled N st k ds) | false ↦ stop noRoom ])
-      pick true = f
-      pick false = tt
-
   react-fine : (room N : ℕ) (st : List Entry) (ph : Phase) (o : Option ℕ) → Kept N st → Stands N st ph
       → Answers (M .size) (wanted M N st ph) o → Fine (react room N st ph o)
   unfolding react wanted
@@ -212,7 +204,7 @@ module _ (M : Model) where
       round-lands Fine (suc N) st N 1 (omega arith) (omega arith) (round-fine (suc N) st (grown N st K a) 1 (omega arith))
   react-fine room N st (settle k s ds) (some t) K w a = deeper-fine N st K k s ds t w a
   react-fine room N st (settle k s ds) none K w a =
-      kept-fine room N (put st s (suc k)) k ds (settled-fine N st s k ds w (blocked-kept N st K k s ds w a))
+      kept-lands Fine room N (put st s (suc k)) k ds (λ h. settled-fine N st s k ds w (blocked-kept N st K k s ds w a)) (λ h. tt)
   react-fine room N st (raise i s todo) (some t) K w a = tested-fine N st K i todo (w .above) (w .below)
   react-fine room N st (raise i s todo) none K w a =
       tested-fine N (put st s (suc i)) (raised-kept N st K i s w a) i todo (w .above) (w .below)

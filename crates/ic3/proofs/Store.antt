@@ -72,6 +72,12 @@ put-old [] s k h = absurd (omega arith)
 put-old (x ∷ es) s k h =
     test (eqb (x .state) s) (λ e. rw (e, put)) (λ e. rw (e, put) (ap suc (put-old es s k (rw (e, levelOf) at h))))
 
+pub put-more : (st : List Entry) (s k : ℕ) → Tidy st → length st ≤ length (put st s k)
+put-more st s k w =
+    test (eqb (levelOf st s) 0)
+    (λ e. omega (arith, put-new st s k w (eqb-true (levelOf st s) 0 e)))
+    (λ e. omega (arith, put-old st s k (omega (arith, eqb-false (levelOf st s) 0 e))))
+
 pub fits-true : (room : ℕ) (st : List Entry) → fits room st ≡ true → length st ≤ room
 unfolding fits
 fits-true room st e = leb-true (length st) room e
@@ -188,6 +194,18 @@ states-length p (x ∷ es) =
     test (p (x .level))
     (λ e. rw (e, states) (omega (arith, states-length p es)))
     (λ e. rw (e, states) (omega (arith, states-length p es)))
+
+-- all levels are at most n + 1
+pub total-cap : (n : ℕ) (st : List Entry) → Tidy st → ((s : ℕ) → levelOf st s ≤ suc n)
+    → total st ≤ n * length st + length (states (leb (suc n)) st)
+unfolding total states
+total-cap n [] w h = omega arith
+total-cap n (x ∷ es) w h =
+    let r = rest-level x es w (suc n) h in
+    let b : total es ≤ n * length es + length (states (leb (suc n)) es) = total-cap n es (w .2) (r .1) in
+    test (leb (suc n) (x .level))
+    (λ e. rw (e, states) (omega (arith, r .0, mul-suc n (length es))))
+    (λ e. rw (e, states) (omega (arith, mul-suc n (length es), leb-false (suc n) (x .level) e)))
 
 pub states-all : (st : List Entry) → Tidy st → length (states (leb 1) st) ≡ length st
 unfolding states

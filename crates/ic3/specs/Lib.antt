@@ -1,4 +1,4 @@
--- The root of the definitions, in the order in which to read them. Nothing leans on the last two.
+-- The root of the definitions, in the order in which to read them. No definition leans on the last two.
 pub mod Model
 pub mod Search
 pub mod Demands

@@ -1,10 +1,8 @@
 -- The ends of a mask. The lowest 1 is as high as the zeros below it are many, counted from position 0 on: below a 0 one more than in the half,
--- below a 1 none. The highest 1 is at k if the mask lies between 2 ^ k and 2 ^ (k + 1). A mask has one lowest and one highest 1 at most:
--- of two that differ, one would say that the other is 0. Assumes nothing.
-use mathlib.Core.Path.{_≡_, refl, sym, ap, _∙_}
-use mathlib.Core.Logic.{⊎-elim}
+-- below a 1 none. The highest 1 is at k if the mask lies between 2 ^ k and 2 ^ (k + 1). Assumes nothing.
+use mathlib.Core.Path.{_≡_, refl, ap, _∙_}
 use Prim.Native.Nat.{ℕ, zero, suc, _-_, _/_, _%_, _^_, _≤_, _<_}
-use native.Mathlib.Nat.{div-eq-of-lt-le, pow-suc, eq-zero-or-pos}
+use native.Mathlib.Nat.{div-eq-of-lt-le, pow-suc}
 use native.Mathlib.Omega.{arith}
 use lib.Count.{leadingZeros, leading-top, trailingZeros, trailing-of-zero, under}
 use Rattle.masks.specs.Bit.{bit}
@@ -33,7 +31,7 @@ pub lowest-end : (w m : ℕ) → m < 2 ^ w → EndOr w Lowest m (trailingZeros w
 lowest-end w m h = record { none = λ e. ap (trailingZeros w) e ∙ trailing-of-zero w; found = λ p. lowest-at w m p h }
 
 -- a mask between two powers has its highest 1 at the lower
-pub highest-at : (k m : ℕ) → 2 ^ k ≤ m → m < 2 ^ suc k → Highest m k
+highest-at : (k m : ℕ) → 2 ^ k ≤ m → m < 2 ^ suc k → Highest m k
 unfolding bit
 highest-at k m p q =
     let e : m / 2 ^ k ≡ 1 = div-eq-of-lt-le (2 ^ k) (omega arith) (omega (arith, pow-suc 2 k)) in
@@ -45,25 +43,3 @@ highest-end w m p q =
     let t = leading-top (suc w) m p q in
     let e : w - leadingZeros (suc w) m ≡ t .0 = omega (arith, t .1) in
     (omega (arith, t .1), rw e (highest-at (t .0) m (t .2) (t .3)))
-
--- what would make a 1 a 0 does not hold
-outside : {b : ℕ} {A : Type 0} → b ≡ 1 → (A → b ≡ 0) → A → ⊥
-outside e f a = omega (arith, f a)
-
--- one end at most is one answer
-one-answer : (End : ℕ → ℕ → Type 0) → ((m j k : ℕ) → End m j → End m k → j ≡ k)
-    → (w m j k : ℕ) → EndOr w End m j → EndOr w End m k → j ≡ k
-one-answer End one w m j k a b =
-    ⊎-elim (λ e. a .none e ∙ sym (b .none e)) (λ p. one m j k (a .found p) (b .found p)) (eq-zero-or-pos m)
-
--- two answers that the contract of `lowest` allows are equal
-pub lowest-unique : (w m j k : ℕ) → EndOr w Lowest m j → EndOr w Lowest m k → j ≡ k
-lowest-unique =
-    one-answer Lowest
-    (λ m j k a b. omega (arith, outside (b .here) (a .below k), outside (a .here) (b .below j)))
-
--- two answers that the contract of `highest` allows are equal
-pub highest-unique : (w m j k : ℕ) → EndOr w Highest m j → EndOr w Highest m k → j ≡ k
-highest-unique =
-    one-answer Highest
-    (λ m j k a b. omega (arith, outside (b .here) (a .above k), outside (a .here) (b .above j)))

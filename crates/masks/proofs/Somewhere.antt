@@ -1,8 +1,8 @@
 -- What `somewhere` says. It looks at the last position first and then at those below it, so the law goes by the number of positions: all fail
 -- exactly if the last fails and all below it do. Assumes nothing.
-use mathlib.Core.Path.{_≡_, refl, sym, _∙_}
+use mathlib.Core.Path.{_≡_, refl, sym, ap, _∙_}
 use mathlib.Core.Logic.{_↔_, ⊎-elim}
-use mathlib.Core.Bool.{Bool, true, false, _||_, true≢false}
+use mathlib.Core.Bool.{Bool, true, false, _||_, or-assoc, or-comm, true≢false}
 use Prim.Native.Nat.{ℕ, zero, suc, _<_}
 use native.Mathlib.Omega.{arith}
 use Rattle.masks.specs.Bit.{somewhere}
@@ -21,6 +21,19 @@ somewhere-suc k p = here (p k)
     here : (b : Bool) → (elim b as (λ x. Bool) [ true ↦ true | false ↦ somewhere k p ]) ≡ (b || somewhere k p)
     here true = refl
     here false = refl
+
+-- the first position, or a later one
+pub somewhere-first : (k : ℕ) (p : ℕ → Bool) → somewhere (suc k) p ≡ (p 0 || somewhere k (λ j. p (suc j)))
+unfolding somewhere
+somewhere-first zero p = somewhere-suc zero p
+somewhere-first (suc k) p =
+    somewhere-suc (suc k) p
+    ∙ ap (λ x. p (suc k) || x) (somewhere-first k p)
+    ∙ or-swap (p (suc k)) (p 0) (somewhere k (λ j. p (suc j)))
+    ∙ ap (λ x. p 0 || x) (sym (somewhere-suc k (λ j. p (suc j))))
+  where
+    or-swap : (a b c : Bool) → (a || (b || c)) ≡ (b || (a || c))
+    or-swap a b c = sym (or-assoc a b c) ∙ rw (or-comm a b) (or-assoc b a c)
 
 -- no position passes exactly if each fails
 pub somewhere-false : (k : ℕ) (p : ℕ → Bool) → (somewhere k p ≡ false) ↔ ((i : ℕ) → i < k → p i ≡ false)

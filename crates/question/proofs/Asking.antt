@@ -7,12 +7,12 @@ use mathlib.Core.List.{List}
 use mathlib.Core.Logic.{⊎-elim}
 use mathlib.Core.Option.{none, some}
 use mathlib.Core.Path.{_≡_, refl, sym, ap, _∙_}
-use native.Mathlib.Nat.{add-mul-mod-self-left, mod-lt, mod-eq-of-lt, div-add-mod', lt-of-lt-of-le}
+use native.Mathlib.Nat.{mod-lt, div-add-mod', lt-of-lt-of-le}
 use native.Mathlib.Omega.{arith}
 use lib.Pow.{pow-pos, pow-mono, shr-lt}
 use Rattle.masks.specs.Bit.{bit}
 use Rattle.masks.proofs.Bits.{bit-le, bit-of-zero, bit-past, at-bit, bits-below, lt-or-ge}
-use Rattle.masks.proofs.Operations.{flip}
+use Rattle.masks.proofs.Operations.{beyond-none, beyond-all}
 use Rattle.masks.proofs.Halves.{bit-low, bit-high, bit-mod, bit-div}
 use Rattle.masks.proofs.Order.{width-bits}
 use Rattle.ic3.specs.Model.{least}
@@ -31,24 +31,11 @@ onState Nothing = Nothing
 
 -- ---- the positions that are settled from the start
 module _ (m : ℕ) (h : m ≤ 32) where
-  -- 2^m - 1 has the m lowest bits
-  below-at : (j : ℕ) → j < m → bit (2 ^ m - 1) j ≡ 1
-  below-at j l =
-      let e : 2 ^ m - 1 - 0 ≡ 2 ^ m - 1 = omega arith in
-      omega (arith, flip m 0 j (pow-pos m) l, at-bit j e, bit-of-zero j)
-
-  fits-64 : 2 ^ m - 1 < 2 ^ 64
-  fits-64 = omega (arith, pow-mono {i = m} {j = 64} (omega arith))
-
-  -- the rest, up to 64
-  rest : 2 ^ 64 - 2 ^ m ≡ 2 ^ 64 - 1 - (2 ^ m - 1)
-  rest = omega (arith, pow-pos m)
-
   free-at : (j : ℕ) → j < m → bit (2 ^ 64 - 2 ^ m) j ≡ 0
-  free-at j l = rw rest (omega (arith, flip 64 (2 ^ m - 1) j fits-64 (omega arith), below-at j l))
+  free-at j l = beyond-none 64 m j (omega arith) l
 
   fixed-at : (j : ℕ) → m ≤ j → j < 64 → bit (2 ^ 64 - 2 ^ m) j ≡ 1
-  fixed-at j g l = rw rest (omega (arith, flip 64 (2 ^ m - 1) j fits-64 l, bit-past m (2 ^ m - 1) j (omega (arith, pow-pos m)) g))
+  fixed-at j g l = beyond-all 64 m j (omega arith) g l
 
   -- ---- words and states
   module _ (u : ℕ) (fu : u < 2 ^ 32) where
@@ -74,10 +61,10 @@ module _ (m : ℕ) (h : m ≤ 32) where
     small s f = lt-of-lt-of-le f (pow-mono h)
 
     -- the word of a state fits, and agrees
-    pub word-fits : (s : ℕ) → s < 2 ^ m → s + 2 ^ 32 * u < 2 ^ 64
+    word-fits : (s : ℕ) → s < 2 ^ m → s + 2 ^ 32 * u < 2 ^ 64
     word-fits s f = omega (arith, small s f)
 
-    pub word-agrees : (s : ℕ) → s < 2 ^ m → Agree (2 ^ 64 - 2 ^ m) (s + 2 ^ 32 * u) (2 ^ 32 * u)
+    word-agrees : (s : ℕ) → s < 2 ^ m → Agree (2 ^ 64 - 2 ^ m) (s + 2 ^ 32 * u) (2 ^ 32 * u)
     word-agrees s f =
         agree-by (2 ^ 64 - 2 ^ m) (s + 2 ^ 32 * u) (2 ^ 32 * u)
         (λ j o. ⊎-elim
@@ -88,10 +75,6 @@ module _ (m : ℕ) (h : m ≤ 32) where
       where
         settled-from : (j : ℕ) → bit (2 ^ 64 - 2 ^ m) j ≡ 1 → m ≤ j
         settled-from j o = ⊎-elim (λ l. absurd (omega (arith, free-at j l))) (λ g. g) (lt-or-ge j m)
-
-    -- the state of the word
-    pub word-state : (s : ℕ) → s < 2 ^ m → stateOf (s + 2 ^ 32 * u) ≡ s
-    word-state s f = add-mul-mod-self-left s (2 ^ 32) u ∙ mod-eq-of-lt (small s f)
 
     module _ (w : ℕ) (fw : w < 2 ^ 64) (g : Agree (2 ^ 64 - 2 ^ m) w (2 ^ 32 * u)) where
       same-at : (j : ℕ) → m ≤ j → j < 64 → bit w j ≡ bit (2 ^ 32 * u) j
@@ -106,14 +89,14 @@ module _ (m : ℕ) (h : m ≤ 32) where
           (λ b. bit-past 32 (w % 2 ^ 32) j (mod-lt w (pow-pos 32)) b)
           (lt-or-ge j 32))
 
-      pub state-word : w ≡ stateOf w + 2 ^ 32 * u
+      state-word : w ≡ stateOf w + 2 ^ 32 * u
       state-word =
           let e : w / 2 ^ 32 ≡ u = bits-below 32 (w / 2 ^ 32) u (shr-lt 32 32 fw) fu
           (λ j l. bit-div 32 j w ∙ same-at (32 + j) (omega arith) (omega arith) ∙ later-high j) in
           omega (arith, div-add-mod' w (2 ^ 32))
 
     -- the state of the least word is the least state
-    pub least-state : (P p : ℕ → Bool) → ((s : ℕ) → s < 2 ^ m → p s ≡ P (s + 2 ^ 32 * u)) → (r : Answer)
+    least-state : (P p : ℕ → Bool) → ((s : ℕ) → s < 2 ^ m → p s ≡ P (s + 2 ^ 32 * u)) → (r : Answer)
         → LeastWord P (2 ^ 64 - 2 ^ m) (2 ^ 32 * u) r → least (2 ^ m) p ≡ answered (onState r)
     unfolding Why
     least-state P p same (State w) L =

@@ -1,10 +1,10 @@
 -- What is asked of a state is what the engine asks of its word: in R(0) with the start list and no stored state, in R(i) above with the stored
 -- states and no start list. A bad state is asked for as one that steps to state 0 by a list that does not look at later bits. Assumes nothing.
 use Prim.Native.Nat.{ℕ, zero, suc, _+_, _-_, _*_, _%_, _^_, min, _<_}
-use mathlib.Core.Bool.{Bool, true, false, not, _&&_}
+use mathlib.Core.Bool.{not, _&&_, and-true, and-comm}
 use mathlib.Core.List.{List, []}
 use mathlib.Core.Logic.{⊎-elim}
-use mathlib.Core.Path.{_≡_, refl, sym, ap, _∙_}
+use mathlib.Core.Path.{_≡_, sym, ap, _∙_}
 use native.Mathlib.Nat.{add-mul-mod-self-left, mod-eq-of-lt, lt-of-lt-of-le}
 use native.Mathlib.Omega.{arith}
 use lib.Pow.{pow-mono}
@@ -16,15 +16,6 @@ use Rattle.system.specs.System.{listTrue, word}
 use Rattle.question.specs.Question.{excluded, inside, badIn, stepIn}
 use Rattle.question.specs.Reason.{stateOf, allowed, fulfils, asked}
 use Rattle.question.proofs.Words.{Same, list-same}
-
-and-true : (a : Bool) → (a && true) ≡ a
-and-true true = refl
-and-true false = refl
-
-and-swap : (a b : Bool) → (a && b) ≡ (b && a)
-and-swap true b = sym (and-true b)
-and-swap false true = refl
-and-swap false false = refl
 
 module _ (s t : ℕ) (f : s < 2 ^ 32) where
   abbrev w : ℕ
@@ -44,15 +35,15 @@ module _ (s t : ℕ) (f : s < 2 ^ 32) where
   state-of = add-mul-mod-self-left s (2 ^ 32) (t % 2 ^ 32) ∙ mod-eq-of-lt f
 
   module _ (start whole states levels : List ℕ) where
-    pub in-start : (inside start states levels 0 s && listTrue whole (word s t)) ≡ fulfils start whole [] levels 0 w
+    in-start : (inside start states levels 0 s && listTrue whole (word s t)) ≡ fulfils start whole [] levels 0 w
     unfolding inside fulfils allowed excluded somewhere
     in-start = rw (state-of, list-same whole (word s t) w same-word, and-true (listTrue whole w))
 
-    pub in-stored : (i : ℕ) → (inside start states levels (suc i) s && listTrue whole (word s t)) ≡ fulfils [] whole states levels (suc i) w
+    in-stored : (i : ℕ) → (inside start states levels (suc i) s && listTrue whole (word s t)) ≡ fulfils [] whole states levels (suc i) w
     unfolding inside fulfils allowed listTrue
     in-stored i =
         rw (state-of, list-same whole (word s t) w same-word)
-        (and-swap (not (excluded (suc i) states levels s)) (listTrue whole w))
+        (and-comm (not (excluded (suc i) states levels s)) (listTrue whole w))
 
 module _ (n : ℕ) (start whole states levels : List ℕ) where
   state-small : (s : ℕ) → s < 2 ^ min n 32 → s < 2 ^ 32

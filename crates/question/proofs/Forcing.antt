@@ -18,10 +18,10 @@ use Rattle.masks.proofs.Ends.{lowest-end}
 use Rattle.system.specs.System.{clauseTrue}
 use Rattle.system.proofs.Clause.{clause-literals}
 use Rattle.question.specs.Reason.{Agree, Among, Why, Forces}
-use Rattle.question.proofs.Values.{no-value, value-here, value-other, other-either, other-here}
+use Rattle.question.proofs.Values.{Choice, value-here, value-other, other, other-here}
 
 -- a clause that is false of a word is false of each that agrees on the bits of its masks
-pub clause-why : (ones zeros v : ℕ) → clauseTrue ones zeros v ≡ false → Why (clauseTrue ones zeros) (bitOr ones zeros) v
+clause-why : (ones zeros v : ℕ) → clauseTrue ones zeros v ≡ false → Why (clauseTrue ones zeros) (bitOr ones zeros) v
 unfolding Why Agree
 clause-why ones zeros v e w a =
     clause-literals ones zeros w .1
@@ -114,9 +114,14 @@ module _ (ones zeros settled values : ℕ) (p : ones < 2 ^ 64) (q : zeros < 2 ^ 
     unsettled =
         omega (arith, alone, less 64 ones settled k p s, less 64 zeros settled k q s, bit-le ones k, bit-le zeros k, bit-le settled k)
 
-    -- so it is 0 among the values
-    new : bit values k ≡ 0
-    new = no-value settled values k within unsettled
+    forced : Choice settled values k one
+    forced =
+        record {
+          low = low;
+          within = within;
+          unsettled = unsettled;
+          either = zero-or-power k one (λ j f. elsewhere j f .0);
+        }
 
     -- one bit alone is open, wanted by one of the masks alone: it is forced
     pub clause-forces : Forces (clauseTrue ones zeros) settled values (bitOr ones zeros) (bitOr one none) one
@@ -128,7 +133,7 @@ module _ (ones zeros settled values : ℕ) (p : ones < 2 ^ 64) (q : zeros < 2 ^ 
           low = low;
           is = refl;
           unsettled = unsettled;
-          either = either;
+          either = forced .either;
           among =
               bits-ext (bitAnd (bitOr ones zeros) (bitOr settled (2 ^ k))) (bitOr ones zeros) (λ j.
               omega (
@@ -143,24 +148,21 @@ module _ (ones zeros settled values : ℕ) (p : ones < 2 ^ 64) (q : zeros < 2 ^ 
               ));
           why =
               clause-why ones zeros (values + (2 ^ k - one))
-              (clause-literals ones zeros (values + (2 ^ k - one)) .1 (λ j l. ⊎-elim (λ e. rw e here) (other j) (eq-or-ne j k)));
+              (clause-literals ones zeros (values + (2 ^ k - one)) .1 (λ j l. ⊎-elim (λ e. rw e here) (there j) (eq-or-ne j k)));
         }
       where
-        either : (one ≡ 0) ⊎ (one ≡ 2 ^ k)
-        either = zero-or-power k one (λ j f. elsewhere j f .0)
-
         here : (bit ones k + bit (values + (2 ^ k - one)) k ≤ 1) × (bit zeros k ≤ bit (values + (2 ^ k - one)) k)
         here =
             omega (
               arith,
-              value-here values k (2 ^ k - one) new (other-either k one either),
-              other-here k one either,
+              value-here (other forced),
+              other-here forced,
               alone,
               unsettled,
               less 64 ones settled k p s,
               less 64 zeros settled k q s,
             )
 
-        other : (j : ℕ) → (j ≡ k → ⊥) → (bit ones j + bit (values + (2 ^ k - one)) j ≤ 1) × (bit zeros j ≤ bit (values + (2 ^ k - one)) j)
-        other j f =
-            omega (arith, value-other values k (2 ^ k - one) new (other-either k one either) j f, elsewhere j f, wanted-one j, wanted-zero j)
+        there : (j : ℕ) → (j ≡ k → ⊥) → (bit ones j + bit (values + (2 ^ k - one)) j ≤ 1) × (bit zeros j ≤ bit (values + (2 ^ k - one)) j)
+        there j f =
+            omega (arith, value-other (other forced) j f, elsewhere j f, wanted-one j, wanted-zero j)

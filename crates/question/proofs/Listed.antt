@@ -1,37 +1,27 @@
 -- A question over a list of states with no level beside them: each counts as stored with every level, so above R(0) a state is excluded exactly if
 -- it is listed. Assumes nothing.
 use Prim.Native.Nat.{ℕ, suc, _^_, min, _≤_}
-use mathlib.Core.Bool.{Bool, true, false, not, _&&_, _||_}
+use mathlib.Core.Bool.{Bool, not, _&&_}
 use mathlib.Core.List.{List, [], _∷_}
-use mathlib.Core.Path.{_≡_, refl, sym, ap, _∙_}
+use mathlib.Core.Path.{_≡_, ap}
 use native.Mathlib.Nat.{min-eq-left}
 use borrow.Author.Tests.{le-leb}
 use native.Mathlib.Omega.{arith}
-use lib.Dec.{eqb, leb}
-use lib.ListN.{length}
+use lib.Dec.{eqb}
 use Rattle.ic3.specs.Model.{least}
 use Rattle.ic3.specs.Demands.{listed}
 use Rattle.ic3.proofs.Least.{least-same}
 use Rattle.ic3.proofs.Tests.{test}
-use Rattle.masks.specs.Bit.{somewhere}
 use Rattle.system.specs.System.{listTrue, word}
 use Rattle.question.specs.Question.{excluded, inside, badIn, stepIn}
-use Rattle.question.proofs.Model.{somewhere-first}
-
--- the first state, or a later one; what stands with no level has level i, whatever i is
-excluded-first : (i x : ℕ) (xs : List ℕ) (s : ℕ) → excluded i (x ∷ xs) [] s ≡ ((eqb x s && leb i i) || excluded i xs [] s)
-unfolding excluded
-excluded-first i x xs s = somewhere-first (length xs) _
-
-excluded-none : (i s : ℕ) → excluded i [] [] s ≡ false
-unfolding excluded somewhere
-excluded-none i s = refl
+use Rattle.question.proofs.Model.{excluded-first}
+use Rattle.question.proofs.States.{excluded-none}
 
 excluded-listed : (i : ℕ) (xs : List ℕ) (s : ℕ) → excluded i xs [] s ≡ listed xs s
 unfolding listed
-excluded-listed i [] s = excluded-none i s
+excluded-listed i [] s = excluded-none i [] [] s (λ j h. absurd (omega arith))
 excluded-listed i (x ∷ xs) s =
-    rw (excluded-first i x xs s, le-leb i i (omega arith), excluded-listed i xs s)
+    rw (excluded-first i x xs [] s, le-leb i i (omega arith), excluded-listed i xs s)
     (test (eqb x s) (λ e. rw (e, listed)) (λ e. rw (e, listed)))
 
 module _ (n : ℕ) (start list xs : List ℕ) (i : ℕ) (h : n ≤ 32) where

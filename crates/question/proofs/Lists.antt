@@ -22,7 +22,7 @@ rest-false ones zeros rest w e = by (clauseTrue ones zeros w) refl
     by false h = list-pair false ones zeros rest w h
 
 -- a list is false where one of its clauses is
-pub list-false : (w j : ℕ) (l : List ℕ) → 2 * j + 1 < length l → clauseTrue (getD l (2 * j) 0) (getD l (2 * j + 1) 0) w ≡ false
+list-false : (w j : ℕ) (l : List ℕ) → 2 * j + 1 < length l → clauseTrue (getD l (2 * j) 0) (getD l (2 * j + 1) 0) w ≡ false
     → listTrue l w ≡ false
 list-false w zero l h e = list-stops l 0 w h e
 list-false w (suc j) [] h e = absurd (omega arith)

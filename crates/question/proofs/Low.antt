@@ -2,29 +2,29 @@
 -- the low half is enough: words that agree on it have states that agree on all of the reason. A bit that is forced is one of the state's, since
 -- all others count as settled. Assumes nothing.
 use mathlib.Core.Path.{_≡_, sym, _∙_}
-use mathlib.Core.Logic.{_⊎_, ⊎-elim}
+use mathlib.Core.Logic.{⊎-elim}
 use mathlib.Core.Bool.{Bool}
 use Prim.Native.Nat.{ℕ, _+_, _-_, _%_, _^_, _≤_, _<_}
 use native.Mathlib.Omega.{arith}
 use lib.Bits.{bitAnd, bitOr}
 use Rattle.masks.specs.Bit.{bit}
-use Rattle.masks.proofs.Bits.{lt-or-ge, eq-or-ne, bit-of-zero, bit-past, at-bit, bits-ext}
-use Rattle.masks.proofs.Operations.{meet, join, flip}
+use Rattle.masks.proofs.Bits.{lt-or-ge, eq-or-ne, bit-past, at-bit, bits-ext}
+use Rattle.masks.proofs.Operations.{meet, join, beyond-none, beyond-all}
 use Rattle.masks.proofs.Halves.{bit-mod}
 use Rattle.question.specs.Reason.{stateOf, Agree, Among, Why, Forces}
-use Rattle.question.proofs.Values.{no-value, value-here, value-other, other-either}
+use Rattle.question.proofs.Values.{Choice, value-here, value-other, other}
 
 -- the positions of the high half
 abbrev high : ℕ
-high = 2 ^ 64 - 1 - (2 ^ 32 - 1)
+high = 2 ^ 64 - 2 ^ 32
 
 -- none of them is one of the state's
 high-below : (j : ℕ) → j < 32 → bit high j ≡ 0
-high-below j l = omega (arith, flip 64 (2 ^ 32 - 1) j (omega arith) (omega arith), flip 32 0 j (omega arith) l, bit-of-zero j)
+high-below j l = beyond-none 64 32 j (omega arith) l
 
 -- all others of a word are among them
 high-above : (j : ℕ) → 32 ≤ j → j < 64 → bit high j ≡ 1
-high-above j g l = omega (arith, flip 64 (2 ^ 32 - 1) j (omega arith) l, bit-past 32 (2 ^ 32 - 1) j (omega arith) g)
+high-above j g l = beyond-all 64 32 j (omega arith) g l
 
 -- a state has no bit in the high half
 state-above : (x j : ℕ) → 32 ≤ j → bit (x % 2 ^ 32) j ≡ 0
@@ -89,32 +89,25 @@ module _ (P : ℕ → Bool) where
           (λ g. absurd (omega (arith, join settled high (h .k), h .unsettled, high-above (h .k) g (h .low))))
           (lt-or-ge (h .k) 32)
 
-      -- it is 0 among the values, and among the state's
-      new : bit values (h .k) ≡ 0
-      new = no-value settled values (h .k) within unsettled
+      forced : Choice settled values (h .k) value
+      forced = record { low = h .low; within = within; unsettled = unsettled; either = h .either }
 
-      new-low : bit (values % 2 ^ 32) (h .k) ≡ 0
-      new-low = bit-mod 32 (h .k) values of-state ∙ new
-
-      other : (2 ^ h .k - value ≡ 0) ⊎ (2 ^ h .k - value ≡ 2 ^ h .k)
-      other = other-either (h .k) value (h .either)
+      forced-low : Choice (bitOr settled high) (values % 2 ^ 32) (h .k) value
+      forced-low =
+          record { low = h .low; within = low-values settled values within; unsettled = h .unsettled; either = h .either }
 
       -- at the other value the low halves are the same
       other-below : (j : ℕ) → j < 32 → bit (values % 2 ^ 32 + (2 ^ h .k - value)) j ≡ bit (values + (2 ^ h .k - value)) j
       other-below j l =
           ⊎-elim
-          (λ s. rw s
-          (value-here (values % 2 ^ 32) (h .k) (2 ^ h .k - value) new-low other
-          ∙ sym (value-here values (h .k) (2 ^ h .k - value) new other)))
-          (λ f. value-other (values % 2 ^ 32) (h .k) (2 ^ h .k - value) new-low other j f
-          ∙ bit-mod 32 j values l
-          ∙ sym (value-other values (h .k) (2 ^ h .k - value) new other j f))
+          (λ s. rw s (value-here (other forced-low) ∙ sym (value-here (other forced))))
+          (λ f. value-other (other forced-low) j f ∙ bit-mod 32 j values l ∙ sym (value-other (other forced) j f))
           (eq-or-ne j (h .k))
 
       -- and nothing stands above
       other-above : (j : ℕ) → 32 ≤ j → bit (values % 2 ^ 32 + (2 ^ h .k - value)) j ≡ 0
       other-above j g =
-          value-other (values % 2 ^ 32) (h .k) (2 ^ h .k - value) new-low other j (λ s. omega (arith, of-state))
+          value-other (other forced-low) j (λ s. omega (arith, of-state))
           ∙ state-above values j g
 
       -- what is forced, is forced for the low half of the reason

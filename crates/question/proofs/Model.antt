@@ -2,16 +2,16 @@
 -- entry by entry: the first entry that is the state has its level, and no later one is the state. So R(i) is the same set, and of the same set the
 -- least state is the same. Assumes nothing.
 use Prim.Native.Nat.{ℕ, zero, suc, _^_, min, _≤_}
-use mathlib.Core.Bool.{Bool, true, false, not, _&&_, _||_, or-false}
+use mathlib.Core.Bool.{Bool, false, not, _&&_, _||_, or-false}
 use mathlib.Core.List.{List, [], _∷_}
 use mathlib.Core.Path.{_≡_, refl, sym, ap, _∙_}
 use native.Mathlib.Nat.{min-eq-left}
 use native.Mathlib.Omega.{arith}
 use borrow.Author.Tests.{lt-ltb, le-ltb, lt-leb, leb-true, leb-false, eqb-true}
 use lib.Dec.{eqb, ltb, leb}
-use lib.ListN.{length}
+use lib.ListN.{length, getD, drop}
 use Rattle.masks.specs.Bit.{somewhere}
-use Rattle.masks.proofs.Somewhere.{somewhere-suc}
+use Rattle.masks.proofs.Somewhere.{somewhere-first}
 use Rattle.ic3.specs.Model.{least}
 use Rattle.ic3.specs.Search.{levelOf, R, Phase, look, wanted}
 use Rattle.ic3.proofs.Least.{least-same}
@@ -21,27 +21,12 @@ use Rattle.system.specs.System.{System, model}
 use Rattle.question.specs.Question.{excluded, inside, badIn, stepIn}
 use Rattle.question.specs.Stored.{stored}
 
--- the first position, or a later one
-pub somewhere-first : (k : ℕ) (p : ℕ → Bool) → somewhere (suc k) p ≡ (p 0 || somewhere k (λ j. p (suc j)))
-unfolding somewhere
-somewhere-first zero p = somewhere-suc zero p
-somewhere-first (suc k) p =
-    somewhere-suc (suc k) p
-    ∙ ap (λ x. p (suc k) || x) (somewhere-first k p)
-    ∙ swap (p (suc k)) (p 0) (somewhere k (λ j. p (suc j)))
-    ∙ ap (λ x. p 0 || x) (sym (somewhere-suc k (λ j. p (suc j))))
-  where
-    swap : (a b c : Bool) → (a || (b || c)) ≡ (b || (a || c))
-    swap true true c = refl
-    swap true false c = refl
-    swap false true c = refl
-    swap false false c = refl
-
--- the first entry, or a later one
-excluded-cons : (i x k : ℕ) (states levels : List ℕ) (s : ℕ)
-    → excluded i (x ∷ states) (k ∷ levels) s ≡ ((eqb x s && leb i k) || excluded i states levels s)
+-- the first entry, or a later one; with no level beside it, it has every level
+pub excluded-first : (i x : ℕ) (states levels : List ℕ) (s : ℕ)
+    → excluded i (x ∷ states) levels s ≡ ((eqb x s && leb i (getD levels 0 i)) || excluded i states (drop 1 levels) s)
 unfolding excluded
-excluded-cons i x k states levels s = somewhere-first (length states) _
+excluded-first i x states [] s = somewhere-first (length states) _
+excluded-first i x states (k ∷ levels) s = somewhere-first (length states) _
 
 -- in a tidy store a state is excluded exactly if its level is i + 1 or more
 excluded-level : (i : ℕ) (states levels : List ℕ) → length states ≤ length levels → Tidy (stored states levels)
@@ -51,7 +36,7 @@ excluded-level i [] levels h w s = sym (lt-leb (suc i) 0 (omega arith))
 excluded-level i (x ∷ states) [] h w s = absurd (omega arith)
 excluded-level i (x ∷ states) (k ∷ levels) h w s =
     let rest = excluded-level i states levels (omega arith) (w .2) s in
-    excluded-cons (suc i) x k states levels s
+    excluded-first (suc i) x states (k ∷ levels) s
     ∙ test (eqb x s)
     (λ e.
     let gone : excluded (suc i) states levels s ≡ false =

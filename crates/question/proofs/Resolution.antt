@@ -18,19 +18,16 @@ use Rattle.masks.proofs.OneBit.{pow-here, pow-other, and-pow}
 use Rattle.masks.proofs.Count.{ones-or}
 use Rattle.ic3.proofs.Tests.{test}
 use Rattle.question.specs.Reason.{Agree, Among, Why, resolved}
-use Rattle.question.proofs.Values.{no-value, x-other, value-here, value-other, other-either, other-here}
+use Rattle.question.proofs.Values.{Choice, x-other, value-here, value-other, other, other-here}
 use Rattle.question.proofs.Agreement.{agree-at, agree-by, among-at, among-by}
 
--- Bit k is open, and x is a value for it: 0 or 2^k.
-module _ (settled values k x : ℕ) (within : Among values settled) (unsettled : bit settled k ≡ 0) (either : (x ≡ 0) ⊎ (x ≡ 2 ^ k)) where
-  new : bit values k ≡ 0
-  new = no-value settled values k within unsettled
-
+-- Bit k is open, and x is a value for it.
+module _ {settled values k x : ℕ} (C : Choice settled values k x) where
   -- the settled bits with k
   pub settled-here : bit (bitOr settled (2 ^ k)) k ≡ 1
   settled-here = omega (arith, join settled (2 ^ k) k, pow-here k)
 
-  pub settled-other : (j : ℕ) → (j ≡ k → ⊥) → bit (bitOr settled (2 ^ k)) j ≡ bit settled j
+  settled-other : (j : ℕ) → (j ≡ k → ⊥) → bit (bitOr settled (2 ^ k)) j ≡ bit settled j
   settled-other j f = omega (arith, join settled (2 ^ k) j, pow-other k j f, bit-le settled j)
 
   -- the values stay within the settled bits
@@ -39,7 +36,7 @@ module _ (settled values k x : ℕ) (within : Among values settled) (unsettled :
       among-by (bitOr values x) (bitOr settled (2 ^ k))
       (λ j. ⊎-elim
       (λ e. rw e (omega (arith, settled-here, bit-le (bitOr values x) k)))
-      (λ f. omega (arith, settled-other j f, join values x j, x-other values k x new either j f, among-at values settled within j))
+      (λ f. omega (arith, settled-other j f, join values x j, x-other C j f, among-at values settled (C .within) j))
       (eq-or-ne j k))
 
   -- a word that agrees with more settled bits agrees with fewer
@@ -47,20 +44,17 @@ module _ (settled values k x : ℕ) (within : Among values settled) (unsettled :
   agree-fewer w g =
       agree-by settled w values
       (λ j o. ⊎-elim
-      (λ e. absurd (omega (arith, unsettled, at-k j e o)))
-      (λ f. agree-at (bitOr settled (2 ^ k)) w (values + x) g j (settled-other j f ∙ o) ∙ value-other values k x new either j f)
+      (λ e. absurd (omega (arith, C .unsettled, rw e at o)))
+      (λ f. agree-at (bitOr settled (2 ^ k)) w (values + x) g j (settled-other j f ∙ o) ∙ value-other C j f)
       (eq-or-ne j k))
-    where
-      at-k : (j : ℕ) → j ≡ k → bit settled j ≡ 1 → bit settled k ≡ 1
-      at-k j e o = rw e at o
 
   -- a word that has the value at k agrees with more
   pub agree-more : (w : ℕ) → Agree settled w values → bit w k ≡ bit x k → Agree (bitOr settled (2 ^ k)) w (values + x)
   agree-more w g e =
       agree-by (bitOr settled (2 ^ k)) w (values + x)
       (λ j o. ⊎-elim
-      (λ q. rw q (e ∙ sym (value-here values k x new either)))
-      (λ f. agree-at settled w values g j (sym (settled-other j f) ∙ o) ∙ sym (value-other values k x new either j f))
+      (λ q. rw q (e ∙ sym (value-here C)))
+      (λ f. agree-at settled w values g j (sym (settled-other j f) ∙ o) ∙ sym (value-other C j f))
       (eq-or-ne j k))
 
   -- a reason that does without bit k holds whatever its value
@@ -68,25 +62,29 @@ module _ (settled values k x : ℕ) (within : Among values settled) (unsettled :
   unfolding Why
   why-without P a z h w g =
       h w (agree-by a w (values + x) (λ j o. ⊎-elim
-      (λ e. absurd (omega (arith, z, at-k j e o)))
-      (λ f. agree-at a w values g j o ∙ sym (value-other values k x new either j f))
+      (λ e. absurd (omega (arith, rw e at o)))
+      (λ f. agree-at a w values g j o ∙ sym (value-other C j f))
       (eq-or-ne j k)))
-    where
-      at-k : (j : ℕ) → j ≡ k → bit a j ≡ 1 → bit a k ≡ 1
-      at-k j e o = rw e at o
 
   -- a reason for the value, and a word that has it
-  pub why-with : (P : ℕ → Bool) (a m : ℕ) → Why P a (values + x) → ((j : ℕ) → (j ≡ k → ⊥) → bit a j ≤ bit m j) → (w : ℕ) → Agree m w values
+  why-with : (P : ℕ → Bool) (a m : ℕ) → Why P a (values + x) → ((j : ℕ) → (j ≡ k → ⊥) → bit a j ≤ bit m j) → (w : ℕ) → Agree m w values
       → bit w k ≡ bit x k → P w ≡ false
   unfolding Why
   why-with P a m h l w g e =
       h w (agree-by a w (values + x) (λ j o. ⊎-elim
-      (λ q. rw q (e ∙ sym (value-here values k x new either)))
-      (λ f. agree-at m w values g j (omega (arith, l j f, bit-le m j)) ∙ sym (value-other values k x new either j f))
+      (λ q. rw q (e ∙ sym (value-here C)))
+      (λ f. agree-at m w values g j (omega (arith, l j f, bit-le m j)) ∙ sym (value-other C j f))
       (eq-or-ne j k)))
 
-module _ (settled values k x : ℕ) (within : Among values settled) (unsettled : bit settled k ≡ 0) (either : (x ≡ 0) ⊎ (x ≡ 2 ^ k)) (low : k < 64)
-    (a b : ℕ) (fa : a < 2 ^ 64) (fb : b < 2 ^ 64) where
+  -- a reason that does without bit k rests on what was settled before
+  pub among-without : (a : ℕ) → bit a k ≡ 0 → Among a (bitOr settled (2 ^ k)) → Among a settled
+  among-without a z h =
+      among-by a settled (λ j. ⊎-elim
+      (λ q. rw q (omega arith))
+      (λ f. omega (arith, among-at a (bitOr settled (2 ^ k)) h j, settled-other j f))
+      (eq-or-ne j k))
+
+module _ {settled values k x : ℕ} (C : Choice settled values k x) (a b : ℕ) (fa : a < 2 ^ 64) (fb : b < 2 ^ 64) where
   -- a word has the one value or the other
   eq-or-other : (v a b : ℕ) → v ≤ 1 → b + a ≡ 1 → (v ≡ a) ⊎ (v ≡ b)
   eq-or-other v a b h e = ⊎-elim inl (λ f. inr (omega (arith, f))) (eq-or-ne v a)
@@ -97,46 +95,31 @@ module _ (settled values k x : ℕ) (within : Among values settled) (unsettled :
 
   both-at : (j : ℕ) → bit both j ≡ bit (bitOr a b) j - bit (2 ^ k) j
   unfolding both
-  both-at j = less 64 (bitOr a b) (2 ^ k) j (or-lt 64 a b fa fb) (pow-lt low)
+  both-at j = less 64 (bitOr a b) (2 ^ k) j (or-lt 64 a b fa fb) (pow-lt (C .low))
 
   -- RESOLUTION
   pub resolved-why : (P : ℕ → Bool) → Why P a (values + x) → Why P b (values + (2 ^ k - x)) → Why P (resolved a b (2 ^ k)) values
   unfolding resolved both Why
   resolved-why P h g =
       test (eqb (bitAnd a (2 ^ k)) 0)
-      (λ e. rw (e, resolved)
-      (why-without settled values k x within unsettled either P a
-      (and-pow a k .0 (eqb-true (bitAnd a (2 ^ k)) 0 e)) h))
+      (λ e. rw (e, resolved) (why-without C P a (and-pow a k .0 (eqb-true (bitAnd a (2 ^ k)) 0 e)) h))
       (λ e. rw (e, resolved)
       (λ w r. ⊎-elim
-      (λ q. why-with settled values k x within unsettled either P a both h
-      (λ j f. omega (arith, both-at j, join a b j, pow-other k j f)) w r q)
-      (λ q. why-with settled values k (2 ^ k - x) within unsettled (other-either k x either) P b both g
-      (λ j f. omega (arith, both-at j, join a b j, pow-other k j f)) w r q)
-      (eq-or-other (bit w k) (bit x k) (bit (2 ^ k - x) k) (bit-le w k) (other-here k x either))))
+      (λ q. why-with C P a both h (λ j f. omega (arith, both-at j, join a b j, pow-other k j f)) w r q)
+      (λ q. why-with (other C) P b both g (λ j f. omega (arith, both-at j, join a b j, pow-other k j f)) w r q)
+      (eq-or-other (bit w k) (bit x k) (bit (2 ^ k - x) k) (bit-le w k) (other-here C))))
 
   -- it rests on settled bits
   pub resolved-among : Among a (bitOr settled (2 ^ k)) → Among b (bitOr settled (2 ^ k)) → Among (resolved a b (2 ^ k)) settled
   unfolding resolved both
   resolved-among h g =
       test (eqb (bitAnd a (2 ^ k)) 0)
+      (λ e. rw (e, resolved) (among-without C a (and-pow a k .0 (eqb-true (bitAnd a (2 ^ k)) 0 e)) h))
       (λ e. rw (e, resolved)
-      (among-by a settled (λ j. ⊎-elim
-      (λ q. rw q (omega (arith, and-pow a k .0 (eqb-true (bitAnd a (2 ^ k)) 0 e))))
-      (λ f. omega (arith, among-at a (bitOr settled (2 ^ k)) h j, settled-other settled values k x within unsettled either j f))
-      (eq-or-ne j k))))
-      (λ e. rw (e, resolved)
-      (among-by both settled (λ j. ⊎-elim
-      (λ q. rw q (omega (arith, both-at k, pow-here k, bit-le (bitOr a b) k)))
-      (λ f. omega (
-        arith,
-        both-at j,
-        join a b j,
-        among-at a (bitOr settled (2 ^ k)) h j,
-        among-at b (bitOr settled (2 ^ k)) g j,
-        settled-other settled values k x within unsettled either j f,
-      ))
-      (eq-or-ne j k))))
+      (among-without C both
+      (omega (arith, both-at k, pow-here k, bit-le (bitOr a b) k))
+      (among-by both (bitOr settled (2 ^ k)) (λ j.
+      omega (arith, both-at j, join a b j, among-at a (bitOr settled (2 ^ k)) h j, among-at b (bitOr settled (2 ^ k)) g j)))))
 
 -- the number of open bits falls
 pub open-falls : (settled k : ℕ) → settled < 2 ^ 64 → k < 64 → bit settled k ≡ 0

@@ -60,7 +60,7 @@ module _ (i : ℕ) (states levels : List ℕ) (s : ℕ) where
   excluded-none h = somewhere-false (length states) (entry i states levels s) .1 h
 
 -- the clause of the state e is false only of words with that state
-pub clause-state : (e w : ℕ) → e < 2 ^ 32 → clauseTrue (2 ^ 32 - 1 - e) e w ≡ false → stateOf w ≡ e
+clause-state : (e w : ℕ) → e < 2 ^ 32 → clauseTrue (2 ^ 32 - 1 - e) e w ≡ false → stateOf w ≡ e
 clause-state e w h f =
     bits-below 32 (stateOf w) e (mod-lt w (pow-pos 32)) h
     (λ k l.
@@ -69,7 +69,7 @@ clause-state e w h f =
 module _ (i : ℕ) (states levels : List ℕ) (j : ℕ) (h : j < length states) (l : leb i (getD levels j i) ≡ true)
     (b : getD states j 0 < 2 ^ 32) where
   -- the clause of an entry fails only where the store excludes
-  pub entry-clause : (w : ℕ) → clauseTrue (2 ^ 32 - 1 - getD states j 0) (getD states j 0) w ≡ false → allowed states levels i w ≡ false
+  entry-clause : (w : ℕ) → clauseTrue (2 ^ 32 - 1 - getD states j 0) (getD states j 0) w ≡ false → allowed states levels i w ≡ false
   unfolding allowed
   entry-clause w f =
       let e = sym (clause-state (getD states j 0) w b f) in

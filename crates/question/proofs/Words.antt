@@ -31,7 +31,7 @@ list-same (ones ∷ (zeros ∷ rest)) w v h =
     list-pair (clauseTrue ones zeros v) ones zeros rest w (clause-same ones zeros w v h)
     ∙ ap (λ (x : Bool). elim (clauseTrue ones zeros v) as (λ y. Bool) [ true ↦ x | false ↦ false ]) (list-same rest w v h)
 
-pub state-same : (w v : ℕ) → Same w v → stateOf w ≡ stateOf v
+state-same : (w v : ℕ) → Same w v → stateOf w ≡ stateOf v
 state-same w v h =
     bits-below 32 (w % 2 ^ 32) (v % 2 ^ 32) (mod-lt w (pow-pos 32)) (mod-lt v (pow-pos 32))
     (λ j l. bit-mod 32 j w l ∙ h j (omega arith) ∙ sym (bit-mod 32 j v l))

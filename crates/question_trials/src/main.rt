@@ -127,28 +127,22 @@ fn stored(random: u64, n: u64) -> u64 {
     state % 16
 }
 
-fn fill_states(states: &mut [u64; 40], n: u64, seed: u64) -> u64 {
-    let mut random = seed;
-    let mut j = 0;
-    while j < 40 {
-        random = small_systems::next(random);
-        states[j] = stored(random, n);
-        j += 1;
-    }
-    random
-}
-
 // A level from 0 to 5.
 fn level(random: u64) -> u32 {
     ((random >> 20) % 6) as u32
 }
 
-fn fill_levels(levels: &mut [u32; 40], seed: u64) -> u64 {
+// All states, then all levels.
+fn fill_stores(states: &mut [u64; 40], levels: &mut [u32; 40], n: u64, seed: u64) -> u64 {
     let mut random = seed;
     let mut j = 0;
-    while j < 40 {
+    while j < 80 {
         random = small_systems::next(random);
-        levels[j] = level(random);
+        if j < 40 {
+            states[j] = stored(random, n);
+        } else {
+            levels[j - 40] = level(random);
+        }
         j += 1;
     }
     random
@@ -352,8 +346,7 @@ fn question(t: Tally) -> Tally {
     let kind = if (shape >> 14) % 2 == 0 { WILD } else { LOW };
     let random = fill_clauses(&mut start, n, kind, width, sizes);
     let random = fill_clauses(&mut list, n, kind_of(shape), width, random);
-    let random = fill_states(&mut states, n, random);
-    let random = fill_levels(&mut levels, random);
+    let random = fill_stores(&mut states, &mut levels, n, random);
     cut(
         t,
         shape,

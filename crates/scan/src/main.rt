@@ -1,11 +1,8 @@
 // The program `scan`: a house file on standard input, the answer on standard output.
 
-// How many bytes of a text can matter: a 00 line of 7 bytes, 1,024 clause lines of at most 37, a 0F line of 9, and of the line behind them 37. A text
-// is refused at that line at the latest. If it is longer than 37 bytes it has over 36 digits or is malformed otherwise, and cut off after 37 it has
-// no line feed: it is refused with 8 either way.
-const INPUT: usize = 37941;
+// What stands behind so many bytes of a text does not matter, and no answer is longer: `cut` and `short` in the promise of `answer`.
+const INPUT: usize = 37999;
 
-// The longest answer: a line of 21 bytes, and one of 13 for each of at most 1,026 states.
 const OUTPUT: usize = 13359;
 
 fn main() {

@@ -6,18 +6,17 @@ use mathlib.Core.Path.{_≡_, refl, sym, ap}
 use native.Mathlib.Omega.{arith}
 use lib.Dec.{leb}
 use lib.ListN.{length, getD, take, drop}
-use lib.Seq.{drop-cons, length-take-le, take-at}
+use lib.Seq.{drop-cons, length-take-le}
 use Rattle.ic3.specs.Search.{states}
 use Rattle.call.specs.Call.{Stores, says-nothing, result, over, leaves, ended}
-use Rattle.search.specs.Lent.{storeOf, part, verdictOf}
-use Rattle.call.specs.Promise.{lengthOf, resultOf}
+use Rattle.call.proofs.Over.{over-same, over-front}
+use Rattle.search.specs.Lent.{storeOf, part, verdictOf, Closes}
 use Rattle.search.specs.declared.End.{End}
 use Rattle.search.specs.declared.End.the-variants.{Safe, Unsafe}
-use Rattle.call.specs.declared.Outcome.{Outcome}
 use Rattle.call.specs.declared.Verdict.{Verdict}
 use Rattle.call.specs.declared.Verdict.the-variants.{SafeBy, UnsafeBy, Neither}
 
--- ---- parts and fronts
+-- ---- parts
 -- a part has as many numbers as it counts
 pub part-length : (left i : ℕ) (xs : List ℕ) → length (part left i xs) ≡ left
 unfolding part
@@ -34,23 +33,7 @@ part-drop (suc left) i xs h = rw (drop-cons xs i 0 (omega arith)) (ap (λ l. get
 pub part-take : (k : ℕ) (xs : List ℕ) → k ≤ length xs → part k 0 xs ≡ take k xs
 part-take k xs h = part-drop k 0 xs (omega arith)
 
--- zeros are counted by the store's length alone
-pub over-same : (front xs ys : List ℕ) → length xs ≡ length ys → over front xs ≡ over front ys
-unfolding over
-over-same front xs ys e = rw e
-
--- the front is read back
-over-front : (k : ℕ) (front xs : List ℕ) → length front ≡ k → take k (over front xs) ≡ front
-unfolding over
-over-front k front xs e = take-at front _ k e
-
 -- ---- the four ends
--- the outcome and the stores left are those that the call's definition gives for the end
-abbrev pub Closes : Stores → End → ℕ → Outcome → Stores → Type 0
-Closes s e asked o after =
-    (resultOf o after ≡ ended s asked (verdictOf e (s .states) (s .levels) (s .path)))
-    × (lengthOf (o .verdict) ≡ length (ended s asked (verdictOf e (s .states) (s .levels) (s .path)) .evidence))
-
 -- with `mid` for the states, keeping `front` of them and `len` of the path closes the end
 pub record Closable (s : Stores) (e : End) (asked : ℕ) (mid : List ℕ) (front len number : ℕ) (verdict : Verdict) : Type 0 where
   pub same : length mid ≡ length (s .states)

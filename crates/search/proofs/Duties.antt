@@ -1,7 +1,7 @@
 -- The open duties in the path store. A state written at the index of its level is the lowest open duty, those above it are untouched, and a start
 -- state written at index 0 makes the path of all of them. Assumes nothing.
 use Prim.Native.Nat.{ℕ, zero, suc, _+_, _-_, _<_}
-use mathlib.Core.List.{List, [], _∷_}
+use mathlib.Core.List.{List}
 use mathlib.Core.Path.{_≡_, refl}
 use native.Mathlib.Omega.{arith}
 use lib.ListN.{length, getD, set}

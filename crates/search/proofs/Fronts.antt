@@ -1,20 +1,18 @@
--- What the fronts of the lent stores hold. Of `keep`: entry by entry, the states kept so far with those still to be kept are all that are to be
--- kept, since a state is written no further behind than where it was read. Of clearing: a front and the zeros behind it. Assumes nothing.
+-- What `keep` leaves in front of the state store. Entry by entry, the states kept so far with those still to be kept are all that are to be kept,
+-- since a state is written no further behind than where it was read. Assumes nothing.
 use Prim.Native.Nat.{ℕ, suc, _+_, _-_, _≤_, _<_}
-use mathlib.Core.List.{List, [], _∷_, _++_, append-nil}
+use mathlib.Core.List.{List, _∷_, _++_, append-nil}
 use mathlib.Core.Path.{_≡_, refl, sym, _∙_}
 use native.Mathlib.Nat.{le-refl, sub-zero}
 use native.Mathlib.Numerals.{add-one}
 use native.Mathlib.Omega.{arith}
 use borrow.Author.Tests.{le-leb, lt-leb}
 use lib.Dec.{leb}
-use lib.ListN.{length, getD, set, take, replicate, length-set}
-use lib.Seq.{length-take-le, take-suc-set, append-snoc, getD-set-other}
+use lib.ListN.{length, getD, set, take, length-set}
+use lib.Seq.{take-suc-set, append-snoc, getD-set-other}
 use Rattle.ic3.specs.Search.{states}
-use Rattle.call.specs.Call.{over}
 use Rattle.search.specs.Lent.{window, storeOf}
 
--- ---- the states that are kept
 -- where an entry is left, it is the first of the window
 window-opens : (count j : ℕ) (ss ls : List ℕ) → j < count
     → window (count - j) j ss ls ≡ record { state = getD ss j 0; level = getD ls j 0 } ∷ window (count - (j + 1)) (j + 1) ss ls
@@ -89,14 +87,3 @@ module _ (count i : ℕ) (before ls : List ℕ) where
     fronted-all h =
         let e : count - j ≡ 0 = omega arith in
         sym (append-nil (take kept ss)) ∙ (rw e at (f .front))
-
--- ---- the fronts that are left
--- a front and the zeros behind it
-pub over-take : (k : ℕ) (xs : List ℕ) → k ≤ length xs → take k xs ++ replicate (length xs - k) 0 ≡ over (take k xs) xs
-unfolding over
-over-take k xs h = rw (length-take-le k xs h)
-
--- zeros alone
-pub over-none : (xs : List ℕ) → replicate (length xs) 0 ≡ over [] xs
-unfolding over
-over-none xs = rw sub-zero

@@ -9,7 +9,7 @@ use native.Mathlib.Omega.{arith}
 use native.Mathlib.Numerals.{add-one}
 use borrow.Author.Tests.{eqb-true, eqb-false, eq-eqb, ne-eqb, le-leb, lt-leb}
 use lib.Dec.{eqb}
-use lib.ListN.{length, getD, set, length-set}
+use lib.ListN.{length, getD, set}
 use lib.Seq.{getD-set-same, getD-set-other}
 use Rattle.ic3.specs.Search.{Entry, look, settle, Config, at, noRoom, go, stop, put, settled, fits, kept}
 use Rattle.ic3.proofs.Tests.{test}
@@ -84,7 +84,7 @@ module _ (count r : ℕ) (ss ls : List ℕ) (s k : ℕ) (w : FirstAt ss 0 count 
   unfolding storeOf
   kept-raised h =
       let e = put-found count 0 r ss ls s k (omega arith) (omega arith) (w .here h) (w .before) (omega arith) in
-      (fits-window (length ss) count ss (set ls r k) (put (window count 0 ss ls) s k) e c, e, c, refl, length-set ls r k)
+      (fits-window (length ss) count ss (set ls r k) (put (window count 0 ss ls) s k) e c, e, c)
 
   -- s is stored behind the others
   pub kept-new : count ≤ r → count < length ss → KeptAs ss ls count s k (set ss count s) (set ls count k) (At (count + 1))
@@ -94,14 +94,14 @@ module _ (count r : ℕ) (ss ls : List ℕ) (s k : ℕ) (w : FirstAt ss 0 count 
       let e : window (suc count) 0 (set ss count s) (set ls count k) ≡ put (window count 0 ss ls) s k =
       rw z at (put-new count 0 ss ls s k (λ m u v. w .before m u (omega arith)) (omega arith) (omega arith)) in
       rw add-one
-      (fits-window (length ss) (suc count) (set ss count s) (set ls count k) (put (window count 0 ss ls) s k) e (omega arith), e, omega arith, length-set ss count s, length-set ls count k)
+      (fits-window (length ss) (suc count) (set ss count s) (set ls count k) (put (window count 0 ss ls) s k) e (omega arith), e, omega arith)
 
   -- there is no room for s
   pub kept-full : count ≤ r → length ss ≤ count → KeptAs ss ls count s k ss ls Full
   unfolding storeOf fits
   kept-full g h =
       let e : length (put (window count 0 ss ls) s k) ≡ suc count = put-grows count 0 ss ls s k (λ m u v. w .before m u (omega arith)) in
-      (rw e (lt-leb (suc count) (length ss) (omega arith)), refl, refl)
+      rw e (lt-leb (suc count) (length ss) (omega arith))
 
 -- the duty above the settled one again
 pub settled-more : (N k : ℕ) (st : List Entry) (path : List ℕ) → k + 1 < N

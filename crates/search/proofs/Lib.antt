@@ -2,7 +2,7 @@
 pub mod Windows
 pub mod Duties
 pub mod Keeping
-pub mod Levels
+pub mod Walks
 pub mod Rounds
 pub mod Asked
 pub mod Raising

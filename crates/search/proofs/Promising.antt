@@ -1,8 +1,8 @@
 -- The public call's promise, of a refusal and of a search that was closed. Evidence and zeros depend on the lent stores' lengths alone, so the stores
 -- that the search ends with give what the lent ones would; demands 2 and 3 are those of the definition, since number, verdict and questions are.
 -- Assumes nothing.
-use Prim.Native.Nat.{ℕ, zero, suc, _+_, _≤_}
-use mathlib.Core.Bool.{true, false}
+use Prim.Native.Nat.{ℕ, zero, suc}
+use mathlib.Core.Bool.{true}
 use mathlib.Core.List.{List, []}
 use mathlib.Core.Path.{_≡_, refl, sym, ap, _∙_}
 use native.Mathlib.Omega.{arith}
@@ -14,15 +14,16 @@ use Rattle.ic3.proofs.Bound.{demand-3}
 use Rattle.system.specs.System.{System, model, refusalOf}
 use Rattle.system.proofs.Refusals.{size-right, refusal-none}
 use Rattle.call.specs.Call.{Stores, wrongStores, refused, leaves, ended, called}
-use Rattle.search.specs.Lent.{verdictOf, BoundedEnd, FitsEnd, Lends, Ends}
+use Rattle.search.specs.Lent.{verdictOf, FitsEnd, Lends, Ends, Closing, Closes}
 use Rattle.call.specs.Promise.{saidOf, lengthOf, resultOf, Promised}
 use Rattle.search.specs.declared.End.{End}
 use Rattle.search.specs.declared.End.the-variants.{Safe, Unsafe, NoRoom, Spent}
 use Rattle.call.specs.declared.Outcome.{Outcome}
 use Rattle.call.specs.declared.Verdict.{Verdict}
 use Rattle.call.specs.declared.Verdict.the-variants.{SafeBy, UnsafeBy, Neither}
-use Rattle.call.proofs.Call.{refused-system, refused-stores, called-refused, called-searches, called-right, stores-fitting, Lengths}
-use Rattle.search.proofs.Closing.{part-length, over-same, Closes}
+use Rattle.call.proofs.Call.{refused-system, refused-stores, refused-none, called-refused, called-searches, called-right, stores-fitting, Lengths}
+use Rattle.call.proofs.Over.{over-same}
+use Rattle.search.proofs.Closing.{part-length}
 
 -- ---- how a search ends
 module _ (s s' : Stores) (w : Lengths s s') where
@@ -61,7 +62,7 @@ module _ (s : Stores) (q : ℕ) where
   ended-answers noRoom a = absurd a
   ended-answers spent a = absurd a
 
-module _ (y : System) (room allowance : ℕ) (e : End) (asked : ℕ) (ss ls path : List ℕ) (w : Ends y room allowance e asked ss ls path) where
+module _ {y : System} {room allowance : ℕ} {e : End} {asked : ℕ} {ss ls path : List ℕ} (w : Ends y room allowance e asked ss ls path) where
   -- a path is longer than the room by at most two
   pub ends-fit : FitsEnd e (length path)
   ends-fit = pick e (rw (sym (w .verdict)) at (ending-fits (model y) room allowance))
@@ -73,10 +74,10 @@ module _ (y : System) (room allowance : ℕ) (e : End) (asked : ℕ) (ss ls path
       pick Spent f = tt
 
   -- what `close` requires, since the search keeps the stores' lengths
-  pub ends-closing : BoundedEnd e (length ss) × (length ls ≡ length ss) × (length ss + 2 ≤ length path) × FitsEnd e (length path)
+  pub ends-closing : Closing e ss ls path
   ends-closing =
       let l = w .lends in
-      rw (l .states) (w .bounded, l .levels, l .enough, ends-fit)
+      record { same = rw (l .states) (l .levels); bounded = rw (l .states) (w .bounded); fits = ends-fit }
 
 -- ---- the promise
 module _ (y : System) (lent : Stores) (allowance : ℕ) where
@@ -104,49 +105,50 @@ module _ (y : System) (lent : Stores) (allowance : ℕ) where
       → Promised y lent allowance (record { number = 4; verdict = Neither; questions = 0 }) lent
   stores-promised e w = refused-promised 3 _ (refused-stores y lent e w) refl
 
-  -- what is not refused is lent as the search needs it
-  pub lends : refusalOf y ≡ 0 → wrongStores lent ≡ false → Lends (y .n) (length (lent .states)) (lent .states) (lent .levels) (lent .path)
-  lends e w =
-      let f = stores-fitting lent w in
+-- what is not refused is lent as the search needs it
+pub lends : (y : System) (lent : Stores) → refused y lent ≡ 0 → Lends (y .n) (length (lent .states)) (lent .states) (lent .levels) (lent .path)
+lends y lent h =
+    let e = refused-none y lent h in
+    let f = stores-fitting lent (e .1) in
+    record {
+      small = size-right (y .n) (refusal-none y (e .0) .0) .1;
+      most = f .most;
+      states = refl;
+      levels = sym (f .same);
+      enough = f .path;
+    }
+
+module _ {y : System} {lent : Stores} {allowance : ℕ} (h : refused y lent ≡ 0) {e : End} {asked : ℕ} {ss ls path : List ℕ}
+    (w : Ends y (length (lent .states)) allowance e asked ss ls path) (k : Lengths lent (record { states = ss; levels = ls; path = path })) where
+  -- the stores and the verdict which the search ended with
+  abbrev s : Stores
+  s = record { states = ss; levels = ls; path = path }
+
+  abbrev v : Ending
+  v = verdictOf e ss ls path
+
+  -- the call's result is that of the stores which the search ended with
+  called-ends : called y lent allowance ≡ ended s asked v
+  called-ends =
+      called-searches y lent allowance h
+      ∙ (sym (ended-same lent s k _ _) ∙ rw (w .verdict, w .questions))
+
+  -- a search that ended and was closed: what it returns is the call's result, so what holds of the definition's search holds of it
+  pub searched-promised : {o : Outcome} {after : Stores} → Closes s e asked o after → Promised y lent allowance o after
+  searched-promised {o} {after} c =
+      let room = length (lent .states) in
+      let q : resultOf o after ≡ called y lent allowance = c .0 ∙ sym called-ends in
       record {
-        small = size-right (y .n) (refusal-none y e .0) .1;
-        most = f .most;
-        states = refl;
-        levels = sym (f .same);
-        enough = f .path;
+        equation = q;
+        evidence-length = rw called-ends (c .1);
+        demand-2 = rw (ap (λ r. r .said) q, ap (λ r. r .evidence) q) (called-right y lent allowance);
+        demand-3 = λ m D. let b = demand-3 (model y) .bounded m D in
+            record {
+              few = rw (ap (λ r. r .questions) (c .0) ∙ (ended-questions s asked v ∙ w .questions)) (b .few room allowance);
+              answers = λ z f g. ap (λ r. r .number) (c .0) ∙ ended-answers s asked v (rw (w .verdict) (b .answers room allowance f g));
+            };
+        exists-m = demand-3 (model y) .exists;
       }
-
-  module _ (h : refused y lent ≡ 0) (e : End) (asked : ℕ) (ss ls path : List ℕ) (w : Ends y (length (lent .states)) allowance e asked ss ls path)
-      (k : Lengths lent (record { states = ss; levels = ls; path = path })) where
-    -- the stores and the verdict which the search ended with
-    abbrev s : Stores
-    s = record { states = ss; levels = ls; path = path }
-
-    abbrev v : Ending
-    v = verdictOf e ss ls path
-
-    -- the call's result is that of the stores which the search ended with
-    called-ends : called y lent allowance ≡ ended s asked v
-    called-ends =
-        called-searches y lent allowance h
-        ∙ (sym (ended-same lent s k _ _) ∙ rw (w .verdict, w .questions))
-
-    -- a search that ended and was closed: what it returns is the call's result, so what holds of the definition's search holds of it
-    pub searched-promised : (o : Outcome) (after : Stores) → Closes s e asked o after → Promised y lent allowance o after
-    searched-promised o after c =
-        let room = length (lent .states) in
-        let q : resultOf o after ≡ called y lent allowance = c .0 ∙ sym called-ends in
-        record {
-          equation = q;
-          evidence-length = rw called-ends (c .1);
-          demand-2 = rw (ap (λ r. r .said) q, ap (λ r. r .evidence) q) (called-right y lent allowance);
-          demand-3 = λ m D. let b = demand-3 (model y) .bounded m D in
-              record {
-                few = rw (ap (λ r. r .questions) (c .0) ∙ (ended-questions s asked v ∙ w .questions)) (b .few room allowance);
-                answers = λ z f g. ap (λ r. r .number) (c .0) ∙ ended-answers s asked v (rw (w .verdict) (b .answers room allowance f g));
-              };
-          exists-m = demand-3 (model y) .exists;
-        }
 
 -- ---- the promise leaves no choice
 -- what is said and the evidence's length make the verdict

@@ -25,9 +25,9 @@ use Rattle.search.proofs.Rounds.{level-entry}
 use Rattle.search.proofs.Windows.{window-length}
 
 -- stores of the same lengths hold a search as well
-pub lends-kept : (n room : ℕ) (ss ls path ss' ls' path' : List ℕ) → Lends n room ss ls path
+pub lends-kept : {n room : ℕ} {ss ls path ss' ls' path' : List ℕ} → Lends n room ss ls path
     → length ss' ≡ length ss → length ls' ≡ length ls → length path' ≡ length path → Lends n room ss' ls' path'
-lends-kept n room ss ls path ss' ls' path' w a b d =
+lends-kept w a b d =
     record { small = w .small; most = w .most; states = a ∙ w .states; levels = b ∙ w .levels; enough = rw d (w .enough) }
 
 -- what fits does not depend on the questions asked
@@ -41,12 +41,9 @@ fits-stored M room N st look q f = f .stored
 fits-stored M room N st (settle k s ds) q f = f .stored
 fits-stored M room N st (raise i s todo) q f = f .stored
 
-module _ (y : System) (room N count : ℕ) (ss ls path : List ℕ) where
-  abbrev Here : Place → Type 0
-  Here p = Ready y room (record { top = N; count = count; place = p }) ss ls path
-
+module _ {y : System} {room N count : ℕ} {ss ls path : List ℕ} where
   -- the stored states are within the lent stores
-  ready-asks : (p : Place) → Here p → Asks (y .n) count ss ls
+  ready-asks : (p : Place) → Ready y room (record { top = N; count = count; place = p }) ss ls path → Asks (y .n) count ss ls
   unfolding storeOf
   ready-asks p w =
       let l : count ≤ room =
@@ -58,22 +55,25 @@ module _ (y : System) (room N count : ℕ) (ss ls path : List ℕ) where
         tidy = w .fine .0 .tidy;
       }
 
-  pub look-ready : Here Look → Asks (y .n) count ss ls × (N < length path) × (N < 4294967295)
+  pub look-ready : Ready y room (record { top = N; count = count; place = Look }) ss ls path
+      → Asks (y .n) count ss ls × (N < length path) × (N < 4294967295)
   look-ready w =
       (ready-asks Look w, omega (arith, w .fits .low, w .lends .enough), omega (arith, w .fits .low, w .lends .most))
 
-  pub settle-ready : (k : ℕ) → Here (Settle k) → Asks (y .n) count ss ls × (length ls ≡ length ss) × (k < N) × (N < length path)
-  settle-ready k w = (
-    ready-asks (Settle k) w,
+  pub settle-ready : {k : ℕ} → Ready y room (record { top = N; count = count; place = Settle k }) ss ls path
+      → Asks (y .n) count ss ls × (length ls ≡ length ss) × (k < N) × (N < length path)
+  settle-ready w = (
+    ready-asks (Settle _) w,
     w .lends .levels ∙ sym (w .lends .states),
     omega (arith, w .fine .1 .count),
     omega (arith, w .fits .low, w .lends .enough),
   )
 
   -- the level of the entry is that of its state, since no state is stored twice
-  pub raise-ready : (i j : ℕ) → Here (Raise i j) → Asks (y .n) count ss ls × (j < count) × (getD ls j 0 ≡ i) × (i < N)
+  pub raise-ready : {i j : ℕ} → Ready y room (record { top = N; count = count; place = Raise i j }) ss ls path
+      → Asks (y .n) count ss ls × (j < count) × (getD ls j 0 ≡ i) × (i < N)
   unfolding storeOf
-  raise-ready i j w = (
+  raise-ready {i} {j} w = (
     ready-asks (Raise i j) w,
     w .placed,
     sym (level-entry count ss ls j count 0 (omega arith) (omega arith) (w .placed) (w .fine .0 .tidy) .0) ∙ w .fine .1 .here,
@@ -101,47 +101,49 @@ module _ (y : System) (room allowance : ℕ) where
         rest = rw (sub-zero allowance);
       }
 
-  module _ (r : Run) (asked : ℕ) (ss ls path ss' ls' path' : List ℕ) (w : Running r asked ss ls path) where
-    abbrev before : Config
-    before = configOf r ss ls path
+module _ {y : System} {room allowance : ℕ} {r : Run} {asked : ℕ} {ss ls path : List ℕ} (w : Running y room allowance r asked ss ls path) where
+  abbrev before : Config
+  before = configOf r ss ls path
 
-    -- what the definition keeps, kept once more; and the rest of the run is one turn shorter
-    pub running-go : (d : Run) → asked < allowance → Moves y room before (Go d) ss' ls' path' → Running d (asked + 1) ss' ls' path'
-    unfolding next
-    running-go d h m =
-        let p = wanted (model y) (before .N) (before .store) (before .phase) in
-        let f = react-fits (model y) room allowance (before .N) (before .store) (before .phase) (least (model y .size) p) 0
-        (w .ready .fine .0) (w .ready .fine .1) (least-answers (model y .size) p) (w .ready .fits) in
-        let left : allowance - asked ≡ suc (allowance - (asked + 1)) = omega arith in
-        record {
-          ready = record {
-            lends = m .lends;
-            fine = rw (sym (m .onward)) at (next-fine (model y) room before (w .ready .fine));
-            fits = fits-any (model y) room (d .top) (storeOf (d .count) ss' ls') (phaseOf (d .place) (d .top) (d .count) ss' ls' path') 1 0 (rw (sym (m .onward)) at f);
-            placed = m .bounded;
-          };
-          within = omega arith;
-          rest = rw (add-one asked) (sym (run-go (model y) room (allowance - suc asked) before (configOf d ss' ls' path') asked (sym (m .onward)))
-              ∙ (rw (left, add-one asked) at (w .rest)));
-        }
-
-    -- the ending of the turn is that of the run
-    pub running-stop : (e : End) → asked < allowance → Moves y room before (Stop e) ss' ls' path' → Ends y room allowance e (asked + 1) ss' ls' path'
-    running-stop e h m =
-        let left : allowance - asked ≡ suc (allowance - suc asked) = omega arith in
-        let all = sym (rw left at (w .rest)) ∙ run-stop (model y) room (allowance - suc asked) before _ asked (sym (m .onward)) in
-        record {
-          verdict = sym (ap (λ z. z .verdict) all);
-          questions = add-one asked ∙ sym (ap (λ z. z .questions) all);
-          bounded = m .bounded;
+  -- what the definition keeps, kept once more; and the rest of the run is one turn shorter
+  pub running-go : {d : Run} {ss' ls' path' : List ℕ} → asked < allowance → Moves y room before (Go d) ss' ls' path'
+      → Running y room allowance d (asked + 1) ss' ls' path'
+  unfolding next
+  running-go {d} {ss'} {ls'} {path'} h m =
+      let p = wanted (model y) (before .N) (before .store) (before .phase) in
+      let f = react-fits (model y) room allowance (before .N) (before .store) (before .phase) (least (model y .size) p) 0
+      (w .ready .fine .0) (w .ready .fine .1) (least-answers (model y .size) p) (w .ready .fits) in
+      let left : allowance - asked ≡ suc (allowance - (asked + 1)) = omega arith in
+      record {
+        ready = record {
           lends = m .lends;
-        }
+          fine = rw (sym (m .onward)) at (next-fine (model y) room before (w .ready .fine));
+          fits = fits-any (model y) room (d .top) (storeOf (d .count) ss' ls') (phaseOf (d .place) (d .top) (d .count) ss' ls' path') 1 0 (rw (sym (m .onward)) at f);
+          placed = m .bounded;
+        };
+        within = omega arith;
+        rest = rw (add-one asked) (sym (run-go (model y) room (allowance - suc asked) before (configOf d ss' ls' path') asked (sym (m .onward)))
+            ∙ (rw (left, add-one asked) at (w .rest)));
+      }
 
-  pub running-spent : (r : Run) (asked : ℕ) (ss ls path : List ℕ) → Running r asked ss ls path → allowance ≤ asked
-      → Ends y room allowance Spent asked ss ls path
-  running-spent r asked ss ls path w h =
+  -- the ending of the turn is that of the run
+  pub running-stop : {e : End} {ss' ls' path' : List ℕ} → asked < allowance → Moves y room before (Stop e) ss' ls' path'
+      → Ends y room allowance e (asked + 1) ss' ls' path'
+  running-stop h m =
+      let left : allowance - asked ≡ suc (allowance - suc asked) = omega arith in
+      let all = sym (rw left at (w .rest)) ∙ run-stop (model y) room (allowance - suc asked) before _ asked (sym (m .onward)) in
+      record {
+        verdict = sym (ap (λ z. z .verdict) all);
+        questions = add-one asked ∙ sym (ap (λ z. z .questions) all);
+        bounded = m .bounded;
+        lends = m .lends;
+      }
+
+  -- the allowance is used up
+  pub running-spent : allowance ≤ asked → Ends y room allowance Spent asked ss ls path
+  running-spent h =
       let none : allowance - asked ≡ 0 = omega arith in
-      let all = sym (rw none at (w .rest)) ∙ run-out (model y) room (configOf r ss ls path) asked in
+      let all = sym (rw none at (w .rest)) ∙ run-out (model y) room before asked in
       record {
         verdict = sym (ap (λ z. z .verdict) all);
         questions = sym (ap (λ z. z .questions) all);

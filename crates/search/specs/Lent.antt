@@ -11,6 +11,9 @@ use Rattle.ic3.proofs.Store.{Tidy}
 use Rattle.ic3.proofs.Sound.{Fine}
 use Rattle.ic3.proofs.Fit.{Fits}
 use Rattle.system.specs.System.{System, model}
+use Rattle.call.specs.Call.{Stores, ended}
+use Rattle.call.specs.Promise.{lengthOf, resultOf}
+use Rattle.call.specs.declared.Outcome.{Outcome}
 use Rattle.search.specs.declared.End.{End}
 use Rattle.search.specs.declared.End.the-variants.{Safe, Unsafe, NoRoom, Spent}
 use Rattle.search.specs.declared.Kept.{Kept}
@@ -103,10 +106,8 @@ pub record FirstAt (xs : List ℕ) (j count s r : ℕ) : Type 0 where
 -- s got level k: the store is now that of c entries in the stores ss' and ls'; or there was no room
 abbrev pub KeptAs : List ℕ → List ℕ → ℕ → ℕ → ℕ → List ℕ → List ℕ → Kept → Type 0
 KeptAs ss ls count s k ss' ls' (At c) =
-    (fits (length ss) (put (storeOf count ss ls) s k) ≡ true) × (storeOf c ss' ls' ≡ put (storeOf count ss ls) s k)
-    × (c ≤ length ss) × (length ss' ≡ length ss) × (length ls' ≡ length ls)
-KeptAs ss ls count s k ss' ls' Full =
-    (fits (length ss) (put (storeOf count ss ls) s k) ≡ false) × (length ss' ≡ length ss) × (length ls' ≡ length ls)
+    (fits (length ss) (put (storeOf count ss ls) s k) ≡ true) × (storeOf c ss' ls' ≡ put (storeOf count ss ls) s k) × (c ≤ length ss)
+KeptAs ss ls count s k ss' ls' Full = fits (length ss) (put (storeOf count ss ls) s k) ≡ false
 
 -- r is the smallest level from 1 up to below N at which no stored state sits exactly, or N
 pub record LeastGap (ls : List ℕ) (count N r : ℕ) : Type 0 where
@@ -149,3 +150,15 @@ pub record Ends (y : System) (room allowance : ℕ) (e : End) (asked : ℕ) (ss 
   pub questions : asked ≡ searched (model y) room allowance .questions
   pub bounded : BoundedEnd e room
   pub lends : Lends (y .n) room ss ls path
+
+-- what closing needs of an end: what it counts lies within the stores
+pub record Closing (e : End) (ss ls path : List ℕ) : Type 0 where
+  pub same : length ls ≡ length ss
+  pub bounded : BoundedEnd e (length ss)
+  pub fits : FitsEnd e (length path)
+
+-- the outcome and the stores left are those that the call's definition gives for the end
+abbrev pub Closes : Stores → End → ℕ → Outcome → Stores → Type 0
+Closes s e asked o after =
+    (resultOf o after ≡ ended s asked (verdictOf e (s .states) (s .levels) (s .path)))
+    × (lengthOf (o .verdict) ≡ length (ended s asked (verdictOf e (s .states) (s .levels) (s .path)) .evidence))

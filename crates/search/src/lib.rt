@@ -8,10 +8,10 @@ ghost use Rattle.ic3.specs.Search.{put, states as statesOf, judge as judgeIn, f
 ghost use Rattle.ic3.proofs.Store.{Tidy};
 ghost use Rattle.system.specs.System.{model};
 ghost use Rattle.question.specs.Question.{answered, badIn, stepIn};
-ghost use Rattle.call.specs.Call.{ended as endedBy, over};
+ghost use Rattle.call.specs.Call.{over};
 ghost use Rattle.search.specs.declared.Place.the-variants.{Look, Settle, Raise};
-ghost use Rattle.search.specs.Lent.{Asks, Lends, Ready, Moves, Ends, Placed, Bounded, storeOf, duties, configOf, moveOf, roundFrom, verdictOf, BoundedEnd, FitsEnd, FirstAt, KeptAs, LeastGap};
-ghost use Rattle.call.specs.Promise.{systemOf, stores, lengthOf, resultOf, Promised};
+ghost use Rattle.search.specs.Lent.{Asks, Lends, Ready, Moves, Ends, Placed, Bounded, storeOf, duties, configOf, moveOf, roundFrom, FirstAt, KeptAs, LeastGap, Closing, Closes};
+ghost use Rattle.call.specs.Promise.{systemOf, stores, Promised};
 
 // What the awaited question is asked for: step 2 (or 1); step 3 for the duty of level k + 1; step 4 at level i for entry j.
 enum Place {
@@ -64,7 +64,10 @@ fn wide(k: u32) -> usize
 // A bad state of R(N).
 fn found(path: &mut [u64], top: u32, count: usize, s: u64) -> Turn
     requires { ⌜ top < length (now path) ⌝ }
-    ensures { λ r. ⌜ ((ss ls : List ℕ) → moveOf r ss ls (now (path .exit)) ≡ foundIn top (storeOf count ss ls) s) × ((room : ℕ) → Bounded r room) × (length (now (path .exit)) ≡ length (now (path .entry))) ⌝ }
+    ensures { λ r. ⌜
+        ((ss ls : List ℕ) → moveOf r ss ls (now (path .exit)) ≡ foundIn top (storeOf count ss ls) s)
+        × ((room : ℕ) → Bounded r room)
+        ⌝ }
 {
     path[wide(top)] = s;
     if top == 0 {
@@ -80,7 +83,11 @@ fn found(path: &mut [u64], top: u32, count: usize, s: u64) -> Turn
 // Step 3, a state t of R(k) steps to the state of the duty for level k + 1.
 fn deeper(path: &mut [u64], top: u32, count: usize, k: u32, t: u64) -> Turn
     requires { ⌜ (k < top) × (top < length (now path)) ⌝ }
-    ensures { λ r. ⌜ ((ss ls : List ℕ) → moveOf r ss ls (now (path .exit)) ≡ deeperIn top (storeOf count ss ls) k (getD (now (path .entry)) (suc k) 0) (duties top k (now (path .entry))) t) × ((room : ℕ) → Bounded r room) × (length (now (path .exit)) ≡ length (now (path .entry))) ⌝ }
+    ensures { λ r. ⌜
+        ((ss ls : List ℕ) → moveOf r ss ls (now (path .exit))
+        ≡ deeperIn top (storeOf count ss ls) k (getD (now (path .entry)) (suc k) 0) (duties top k (now (path .entry))) t)
+        × ((room : ℕ) → Bounded r room)
+        ⌝ }
 {
     path[wide(k)] = t;
     if k == 0 {
@@ -96,7 +103,10 @@ fn deeper(path: &mut [u64], top: u32, count: usize, k: u32, t: u64) -> Turn
 // A duty for level k + 1 is settled: the duty above it again, or step 2 if it was the last.
 fn settled(top: u32, count: usize, k: u32) -> Run
     requires { ⌜ k < top ⌝ }
-    ensures { λ r. ⌜ ((ss ls path : List ℕ) → configOf r ss ls path ≡ settledIn top (storeOf count ss ls) k (duties top k path)) × Placed (r .place) (r .count) ⌝ }
+    ensures { λ r. ⌜
+        ((ss ls path : List ℕ) → configOf r ss ls path ≡ settledIn top (storeOf count ss ls) k (duties top k path))
+        × Placed (r .place) (r .count)
+        ⌝ }
 {
     if k + 1 < top {
         return Run {
@@ -148,7 +158,11 @@ fn store(states: &mut [u64], levels: &mut [u32], count: usize, s: u64, k: u32) -
 // Step 3, no state of R(k) steps to s: it gets level k + 1.
 fn blocked(states: &mut [u64], levels: &mut [u32], top: u32, count: usize, k: u32, s: u64) -> Turn
     requires { ⌜ (count ≤ length (now states)) × (length (now levels) ≡ length (now states)) × (k < top) ⌝ }
-    ensures { λ r. ⌜ ((path : List ℕ) → moveOf r (now (states .exit)) (now (levels .exit)) path ≡ kept (length (now (states .entry))) top (put (storeOf count (now (states .entry)) (now (levels .entry))) s (suc k)) k (duties top k path)) × Bounded r (length (now (states .entry))) × (length (now (states .exit)) ≡ length (now (states .entry))) × (length (now (levels .exit)) ≡ length (now (levels .entry))) ⌝ }
+    ensures { λ r. ⌜
+        ((path : List ℕ) → moveOf r (now (states .exit)) (now (levels .exit)) path
+        ≡ kept (length (now (states .entry))) top (put (storeOf count (now (states .entry)) (now (levels .entry))) s (suc k)) k (duties top k path))
+        × Bounded r (length (now (states .entry)))
+        ⌝ }
 {
     let r = store(states, levels, count, s, k + 1);
     match r {
@@ -200,7 +214,11 @@ fn gap(levels: &[u32], count: usize, top: u32) -> u32
 // Step 5.
 fn judge(levels: &[u32], top: u32, count: usize) -> Turn
     requires { ⌜ (count ≤ length (now levels)) × (1 ≤ top) ⌝ }
-    ensures { λ r. ⌜ ((ss path : List ℕ) → moveOf r ss (now (levels .entry)) path ≡ judgeIn top (top - 1) 1 (storeOf count ss (now (levels .entry)))) × Bounded r (length (now (levels .entry))) ⌝ }
+    ensures { λ r. ⌜
+        ((ss path : List ℕ) → moveOf r ss (now (levels .entry)) path
+        ≡ judgeIn top (top - 1) 1 (storeOf count ss (now (levels .entry))))
+        × Bounded r (length (now (levels .entry)))
+        ⌝ }
 {
     let i = gap(levels, count, top);
     if i < top {
@@ -216,7 +234,11 @@ fn judge(levels: &[u32], top: u32, count: usize) -> Turn
 // Step 4 from entry j of level i on, then step 5.
 fn round(levels: &[u32], top: u32, count: usize, i: u32, j: usize) -> Turn
     requires { ⌜ (count ≤ length (now levels)) × (1 ≤ i) × (i ≤ top) × (j ≤ count) ⌝ }
-    ensures { λ r. ⌜ ((ss path : List ℕ) → Tidy (storeOf count ss (now (levels .entry))) → moveOf r ss (now (levels .entry)) path ≡ roundFrom top count i j ss (now (levels .entry))) × Bounded r (length (now (levels .entry))) ⌝ }
+    ensures { λ r. ⌜
+        ((ss path : List ℕ) → Tidy (storeOf count ss (now (levels .entry)))
+        → moveOf r ss (now (levels .entry)) path ≡ roundFrom top count i j ss (now (levels .entry)))
+        × Bounded r (length (now (levels .entry)))
+        ⌝ }
 {
     let mut level = i;
     let mut from = j;
@@ -246,7 +268,10 @@ fn bad_state(
     i: u32,
 ) -> question::Answer
     requires { ⌜ (count ≤ length (now states)) × (count ≤ length (now levels)) ⌝ }
-    ensures { λ r. ⌜ answered r ≡ badIn n (now (start .entry)) (now (bad .entry)) (take count (now (states .entry))) (take count (now (levels .entry))) i ⌝ }
+    ensures { λ r. ⌜
+        answered r
+        ≡ badIn n (now (start .entry)) (now (bad .entry)) (take count (now (states .entry))) (take count (now (levels .entry))) i
+        ⌝ }
 {
     question::bad_in(n, start, bad, &states[..count], &levels[..count], i)
 }
@@ -263,7 +288,10 @@ fn step_state(
     s: u64,
 ) -> question::Answer
     requires { ⌜ (count ≤ length (now states)) × (count ≤ length (now levels)) ⌝ }
-    ensures { λ r. ⌜ answered r ≡ stepIn n (now (start .entry)) (now (step .entry)) (take count (now (states .entry))) (take count (now (levels .entry))) i s ⌝ }
+    ensures { λ r. ⌜
+        answered r
+        ≡ stepIn n (now (start .entry)) (now (step .entry)) (take count (now (states .entry))) (take count (now (levels .entry))) i s
+        ⌝ }
 {
     question::step_in(n, start, step, &states[..count], &levels[..count], i, s)
 }
@@ -280,7 +308,12 @@ fn look(
     count: usize,
 ) -> Turn
     requires { ⌜ Asks n count (now states) (now levels) × (top < length (now path)) × (top < 4294967295) ⌝ }
-    ensures { λ r. ⌜ ((step : List ℕ) (room : ℕ) → moveOf r (now (states .entry)) (now (levels .entry)) (now (path .exit)) ≡ next (model (systemOf n (now (start .entry)) step (now (bad .entry)))) room (configOf (record { top = top; count = count; place = Look }) (now (states .entry)) (now (levels .entry)) (now (path .entry)))) × Bounded r (length (now (levels .entry))) × (length (now (path .exit)) ≡ length (now (path .entry))) ⌝ }
+    ensures { λ r. ⌜
+        ((step : List ℕ) (room : ℕ) → moveOf r (now (states .entry)) (now (levels .entry)) (now (path .exit))
+        ≡ next (model (systemOf n (now (start .entry)) step (now (bad .entry)))) room
+        (configOf (record { top = top; count = count; place = Look }) (now (states .entry)) (now (levels .entry)) (now (path .entry))))
+        × Bounded r (length (now (levels .entry)))
+        ⌝ }
 {
     let answer = bad_state(n, start, bad, states, levels, count, top);
     match answer {
@@ -302,7 +335,12 @@ fn settle(
     k: u32,
 ) -> Turn
     requires { ⌜ Asks n count (now states) (now levels) × (length (now levels) ≡ length (now states)) × (k < top) × (top < length (now path)) ⌝ }
-    ensures { λ r. ⌜ ((bad : List ℕ) → moveOf r (now (states .exit)) (now (levels .exit)) (now (path .exit)) ≡ next (model (systemOf n (now (start .entry)) (now (step .entry)) bad)) (length (now (states .entry))) (configOf (record { top = top; count = count; place = Settle k }) (now (states .entry)) (now (levels .entry)) (now (path .entry)))) × Bounded r (length (now (states .entry))) × (length (now (states .exit)) ≡ length (now (states .entry))) × (length (now (levels .exit)) ≡ length (now (levels .entry))) × (length (now (path .exit)) ≡ length (now (path .entry))) ⌝ }
+    ensures { λ r. ⌜
+        ((bad : List ℕ) → moveOf r (now (states .exit)) (now (levels .exit)) (now (path .exit))
+        ≡ next (model (systemOf n (now (start .entry)) (now (step .entry)) bad)) (length (now (states .entry)))
+        (configOf (record { top = top; count = count; place = Settle k }) (now (states .entry)) (now (levels .entry)) (now (path .entry))))
+        × Bounded r (length (now (states .entry)))
+        ⌝ }
 {
     let s = path[wide(k) + 1];
     let answer = step_state(n, start, step, states, levels, count, k, s);
@@ -325,7 +363,12 @@ fn raise(
     j: usize,
 ) -> Turn
     requires { ⌜ Asks n count (now states) (now levels) × (j < count) × (getD (now levels) j 0 ≡ i) × (i < top) ⌝ }
-    ensures { λ r. ⌜ ((bad path : List ℕ) (room : ℕ) → moveOf r (now (states .entry)) (now (levels .exit)) path ≡ next (model (systemOf n (now (start .entry)) (now (step .entry)) bad)) room (configOf (record { top = top; count = count; place = Raise i j }) (now (states .entry)) (now (levels .entry)) path)) × Bounded r (length (now (levels .entry))) × (length (now (levels .exit)) ≡ length (now (levels .entry))) ⌝ }
+    ensures { λ r. ⌜
+        ((bad path : List ℕ) (room : ℕ) → moveOf r (now (states .entry)) (now (levels .exit)) path
+        ≡ next (model (systemOf n (now (start .entry)) (now (step .entry)) bad)) room
+        (configOf (record { top = top; count = count; place = Raise i j }) (now (states .entry)) (now (levels .entry)) path))
+        × Bounded r (length (now (levels .entry)))
+        ⌝ }
 {
     let s = states[j];
     let answer = step_state(n, start, step, states, levels, count, i, s);
@@ -350,7 +393,11 @@ fn one_turn(
     run: Run,
 ) -> Turn
     requires { ⌜ Ready (systemOf n (now start) (now step) (now bad)) (length (now states)) run (now states) (now levels) (now path) ⌝ }
-    ensures { λ r. ⌜ Moves (systemOf n (now (start .entry)) (now (step .entry)) (now (bad .entry))) (length (now (states .entry))) (configOf run (now (states .entry)) (now (levels .entry)) (now (path .entry))) r (now (states .exit)) (now (levels .exit)) (now (path .exit)) ⌝ }
+    ensures { λ r. ⌜
+        Moves (systemOf n (now (start .entry)) (now (step .entry)) (now (bad .entry))) (length (now (states .entry)))
+        (configOf run (now (states .entry)) (now (levels .entry)) (now (path .entry)))
+        r (now (states .exit)) (now (levels .exit)) (now (path .exit))
+        ⌝ }
 {
     let top = run.top;
     let count = run.count;
@@ -374,7 +421,10 @@ fn all_turns(
     allowance: u32,
 ) -> Ended
     requires { ⌜ Lends n (length (now states)) (now states) (now levels) (now path) ⌝ }
-    ensures { λ r. ⌜ Ends (systemOf n (now (start .entry)) (now (step .entry)) (now (bad .entry))) (length (now (states .entry))) allowance (r .end) (r .questions) (now (states .exit)) (now (levels .exit)) (now (path .exit)) ⌝ }
+    ensures { λ r. ⌜
+        Ends (systemOf n (now (start .entry)) (now (step .entry)) (now (bad .entry))) (length (now (states .entry))) allowance
+        (r .end) (r .questions) (now (states .exit)) (now (levels .exit)) (now (path .exit))
+        ⌝ }
 {
     let mut at = Run {
         top: 0,
@@ -406,7 +456,7 @@ fn all_turns(
 // The states stored with a level of i or more come to the front, in their order; their number.
 fn keep(states: &mut [u64], levels: &[u32], count: usize, i: u32) -> usize
     requires { ⌜ (count ≤ length (now states)) × (count ≤ length (now levels)) ⌝ }
-    ensures { λ r. ⌜ (take r (now (states .exit)) ≡ statesOf (leb i) (storeOf count (now (states .entry)) (now (levels .entry)))) × (r ≤ count) × (length (now (states .exit)) ≡ length (now (states .entry))) ⌝ }
+    ensures { λ r. ⌜ (take r (now (states .exit)) ≡ statesOf (leb i) (storeOf count (now (states .entry)) (now (levels .entry)))) × (r ≤ count) ⌝ }
 {
     let mut kept = 0;
     let mut j = 0;
@@ -423,7 +473,11 @@ fn keep(states: &mut [u64], levels: &[u32], count: usize, i: u32) -> usize
 // The stores as they are left: the states start with `front` of their numbers and the path with `len` of its own, and everything else is zero.
 fn finish(states: &mut [u64], levels: &mut [u32], path: &mut [u64], front: usize, len: usize)
     requires { ⌜ (front ≤ length (now states)) × (len ≤ length (now path)) ⌝ }
-    ensures { λ _. ⌜ (now (states .exit) ≡ over (take front (now (states .entry))) (now (states .entry))) × (now (levels .exit) ≡ over [] (now (levels .entry))) × (now (path .exit) ≡ over (take len (now (path .entry))) (now (path .entry))) ⌝ }
+    ensures { λ _. ⌜
+        (now (states .exit) ≡ over (take front (now (states .entry))) (now (states .entry)))
+        × (now (levels .exit) ≡ over [] (now (levels .entry)))
+        × (now (path .exit) ≡ over (take len (now (path .entry))) (now (path .entry)))
+        ⌝ }
 {
     call::clear_behind(states, front);
     call::clear_levels(levels);
@@ -432,8 +486,11 @@ fn finish(states: &mut [u64], levels: &mut [u32], path: &mut [u64], front: usize
 
 // The stores are left with the evidence alone.
 fn close(states: &mut [u64], levels: &mut [u32], path: &mut [u64], ended: Ended) -> call::Outcome
-    requires { ⌜ BoundedEnd (ended .end) (length (now states)) × (length (now levels) ≡ length (now states)) × (length (now states) + 2 ≤ length (now path)) × FitsEnd (ended .end) (length (now path)) ⌝ }
-    ensures { λ r. ⌜ (resultOf r (stores (now (states .exit)) (now (levels .exit)) (now (path .exit))) ≡ endedBy (stores (now (states .entry)) (now (levels .entry)) (now (path .entry))) (ended .questions) (verdictOf (ended .end) (now (states .entry)) (now (levels .entry)) (now (path .entry)))) × (lengthOf (r .verdict) ≡ length (endedBy (stores (now (states .entry)) (now (levels .entry)) (now (path .entry))) (ended .questions) (verdictOf (ended .end) (now (states .entry)) (now (levels .entry)) (now (path .entry))) .evidence)) ⌝ }
+    requires { ⌜ Closing (ended .end) (now states) (now levels) (now path) ⌝ }
+    ensures { λ r. ⌜
+        Closes (stores (now (states .entry)) (now (levels .entry)) (now (path .entry))) (ended .end) (ended .questions)
+        r (stores (now (states .exit)) (now (levels .exit)) (now (path .exit)))
+        ⌝ }
 {
     let questions = ended.questions;
     let end = ended.end;

@@ -79,14 +79,21 @@ fn write_numbers(name: &[u8], numbers: &[u64]) {
     }
 }
 
-fn write_levels(name: &[u8], levels: &[u32]) {
-    write(name);
-    let mut j = 0;
-    while j < levels.len() {
+// Level j, if there is one.
+fn write_level(levels: &[u32], j: usize) {
+    if j < levels.len() {
         write(b" ");
         io::print_decimal(1, wide(levels[j]));
-        j += 1;
     }
+}
+
+// No more than four are lent.
+fn write_levels(levels: &[u32]) {
+    write(b"; levels");
+    write_level(levels, 0);
+    write_level(levels, 1);
+    write_level(levels, 2);
+    write_level(levels, 3);
 }
 
 fn wide(x: u32) -> u64 {
@@ -111,7 +118,7 @@ fn write_line<'a>(outcome: call::Outcome, states: &'a [u64], levels: &[u32], pat
     io::print_decimal(1, wide(outcome.questions));
     write_numbers(b", evidence", call::evidence(states, path, verdict));
     write_numbers(b"; states", states);
-    write_levels(b"; levels", levels);
+    write_levels(levels);
     write_numbers(b"; path", path);
     write(b"\n");
 }

@@ -33,6 +33,15 @@ pub struct Clause {
     pub zeros: u64,
 }
 
+// A clause that is to be written.
+fn written(ones: u64, zeros: u64) -> Clause {
+    Clause {
+        there: true,
+        ones,
+        zeros,
+    }
+}
+
 // The next random number (xorshift).
 pub fn next(seed: u64) -> u64 {
     let a = seed ^ (seed << 13);
@@ -76,6 +85,15 @@ pub fn list_holds(list: &[u64], word: u64) -> bool {
         j = second + 1;
     }
     true
+}
+
+// The first `count` numbers, or all if there are fewer.
+pub fn front<'a>(list: &'a [u64], count: usize) -> &'a [u64] {
+    if count <= list.len() {
+        &list[..count]
+    } else {
+        list
+    }
 }
 
 // The number of states.
@@ -123,19 +141,21 @@ fn counting(n: u32, j: u64) -> Clause {
     let c = j / 2 % 16;
     let bit = 1 << i;
     let two = bit | bit << 32;
-    let stays = 1 << c | if j % 2 == 0 { bit } else { bit << 32 };
     let below = low(i as u32, NONE);
-    if i == (n % 16) as u64 || c == i && j % 2 == 1 {
-        return Clause {
-            there: true,
-            ones: 0,
-            zeros: below | if i == (n % 16) as u64 { 0 } else { two },
-        };
+    if i == (n % 16) as u64 {
+        return written(0, below);
     }
+    if c == i && j % 2 == 0 {
+        return written(two, below);
+    }
+    if c == i {
+        return written(0, below | two);
+    }
+    let stays = 1 << c | bit << (j % 2 * 32);
     Clause {
-        there: c <= i,
-        ones: if c == i { two } else { stays },
-        zeros: if c == i { below } else { (stays | two) ^ stays },
+        there: c < i,
+        ones: stays,
+        zeros: (stays | two) ^ stays,
     }
 }
 
@@ -149,11 +169,7 @@ fn made(kind: u64, density: u64, n: u32, later: bool, j: u64, random: u64) -> Cl
         };
     }
     if kind == CLAUSES {
-        return Clause {
-            there: true,
-            ones: literals(n, later, 1, random),
-            zeros: literals(n, later, 0, random),
-        };
+        return written(literals(n, later, 1, random), literals(n, later, 0, random));
     }
     if kind == COUNTER {
         return counting(n, j);
@@ -214,15 +230,17 @@ fn entry(n: u32, start: &[u64], step: &[u64], bad: &[u64], j: usize) -> bool {
         return list_holds(step, state | row << 32);
     }
     if row == end {
-        return list_holds(start, state);
+        list_holds(start, state)
+    } else {
+        list_holds(bad, state)
     }
-    row - end == 1 && list_holds(bad, state)
 }
 
-// The three lists written out. A whole table has 4^n + 2 * 2^n entries; what is behind it is false.
+// The three lists written out, in 4^n + 2 * 2^n entries. What is behind them stays.
 pub fn table(n: u32, start: &[u64], step: &[u64], bad: &[u64], out: &mut [bool]) {
+    let end = std::num::wrapping_add_usize(1 << (n % 16 * 2), 2 << (n % 16));
     let mut j = 0;
-    while j < out.len() {
+    while j < end && j < out.len() {
         out[j] = entry(n, start, step, bad, j);
         j += 1;
     }

@@ -24,7 +24,7 @@ literal-by-bits o z zero p q r = (λ e. omega (arith, eqb-false z 1 e), λ l. ne
 literal-by-bits o z (suc v) p q r = (λ e. omega (arith, eqb-false o 1 e), λ l. ne-eqb o 1 (omega arith))
 
 -- both literals at a position fail
-pub literal-false : (ones zeros w i : ℕ)
+literal-false : (ones zeros w i : ℕ)
     → (literalTrue ones zeros w i ≡ false) ↔ ((bit ones i + bit w i ≤ 1) × (bit zeros i ≤ bit w i))
 unfolding literalTrue
 literal-false ones zeros w i =

@@ -7,20 +7,34 @@ use mathlib.Core.Logic.{_⊎_, ⊎-elim}
 use Prim.Native.Nat.{ℕ, _+_, _/_, _%_, _^_, _≤_, _<_}
 use native.Mathlib.Numerals.{add-one}
 use native.Mathlib.Omega.{arith}
-use borrow.Author.Tests.{lt-ltb, le-ltb, ltb-false, eqb-false}
+use borrow.Author.Tests.{lt-ltb, le-ltb, ltb-false, eqb-false, eq-eqb, ne-eqb}
 use lib.Dec.{eqb, ltb}
 use lib.ListN.{length, getD, drop, drop-of-length-le}
 use lib.Seq.{drop-cons}
 use Rattle.masks.proofs.Somewhere.{or-fails}
 use Rattle.system.specs.System.{System, wrongSize, wrongCount, wrongBit, refusalOf}
 
--- a test that is true decides `||`, and r is the answer
-pub or-here : {r a : Bool} (b : Bool) → r ≡ a → r ≡ true → r ≡ (a || b)
-or-here b e t = t ∙ sym (ap (λ x. x || b) (sym e ∙ t))
+-- ---- the first of the tests a, b and c that is true decides; p, q and r are what the code finds
+pub or-first : {a p : Bool} (b : Bool) → p ≡ a → p ≡ true → p ≡ (a || b)
+or-first b e t = t ∙ sym (ap (λ x. x || b) (sym e ∙ t))
 
--- a test that is false leaves `||` to the next
-pub or-next : {q r a b : Bool} → q ≡ a → q ≡ false → r ≡ b → r ≡ (a || b)
+-- a test that is false leaves it to the next
+or-next : {a b p q : Bool} → p ≡ a → p ≡ false → q ≡ b → q ≡ (a || b)
 or-next {b = b} e f g = g ∙ sym (ap (λ x. x || b) (sym e ∙ f))
+
+module _ {a b p q : Bool} (e : p ≡ a) (f : p ≡ false) (g : q ≡ b) where
+  pub or-second : (c : Bool) → q ≡ true → q ≡ (a || (b || c))
+  or-second c t = or-next e f (or-first c g t)
+
+  pub or-third : {c r : Bool} → q ≡ false → r ≡ c → r ≡ (a || (b || c))
+  or-third h k = or-next e f (or-next g h k)
+
+-- ---- `x == y || rest`
+pub or-equal : (x y : ℕ) (rest : Bool) → x ≡ y → eqb x y ≡ (eqb x y || rest)
+or-equal x y rest e = rw (eq-eqb x y e)
+
+pub or-unequal : (x y : ℕ) (rest : Bool) → (x ≡ y → ⊥) → rest ≡ (eqb x y || rest)
+or-unequal x y rest f = rw (ne-eqb x y f)
 
 module _ (low high : ℕ) (l : List ℕ) (i : ℕ) where
   -- the mask at i

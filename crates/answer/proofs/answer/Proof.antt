@@ -6,24 +6,6 @@ use borrow.Author.Needs.{needs}
 use Rattle.answer.proofs.answer.Statement.{statement}
 use Rattle.answer.proofs.answer.Tie as tie
 
-slice-aggregate-read : tie.Need-slice-aggregate-read
-slice-aggregate-read c = search needs
-
-slice-aggregate-read-2 : tie.Need-slice-aggregate-read-2
-slice-aggregate-read-2 c = search needs
-
-slice-aggregate-read-3 : tie.Need-slice-aggregate-read-3
-slice-aggregate-read-3 c = search needs
-
-read-requires : tie.Need-read-requires
-read-requires c κs = search needs
-
-put-refusal-requires : tie.Need-put-refusal-requires
-put-refusal-requires c κs = search needs
-
-same-length : tie.Need-same-length
-same-length c = search needs
-
 returns : tie.Need-returns
 returns c =
     let p = c .before .before in
@@ -48,12 +30,6 @@ array-share-prefix-bad c = read-fronts _ _ _ _ (c .before .before .before .befor
 slice-aggregate-solve-3 : tie.Need-slice-aggregate-solve-3
 slice-aggregate-solve-3 c = sym (length-take-le _ _ (read-fronts _ _ _ _ (c .before .before .before .before .before .before .before .read .ensures) .bad))
 
-solve-requires : tie.Need-solve-requires
-solve-requires c κs = search needs
-
-same-length-2 : tie.Need-same-length-2
-same-length-2 c = search needs
-
 returns-2 : tie.Need-returns-2
 returns-2 c =
     let p = c .before .before in
@@ -64,12 +40,12 @@ pub answer-spec : {M : Type 1} → statement M
 answer-spec =
     tie.close
     (tie.spec
-    slice-aggregate-read
-    slice-aggregate-read-2
-    slice-aggregate-read-3
-    read-requires
-    put-refusal-requires
-    same-length
+    (λ c. search needs)
+    (λ c. search needs)
+    (λ c. search needs)
+    (λ c κs. search needs)
+    (λ c κs. search needs)
+    (λ c. search needs)
     returns
     array-share-prefix-start
     slice-aggregate-solve
@@ -77,6 +53,6 @@ answer-spec =
     slice-aggregate-solve-2
     array-share-prefix-bad
     slice-aggregate-solve-3
-    solve-requires
-    same-length-2
+    (λ c κs. search needs)
+    (λ c. search needs)
     returns-2)

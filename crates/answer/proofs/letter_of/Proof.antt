@@ -5,21 +5,9 @@ use borrow.Author.Needs.{needs}
 use Rattle.answer.proofs.letter_of.Statement.{statement}
 use Rattle.answer.proofs.letter_of.Tie as tie
 
-add-result : tie.Need-add-result
-add-result c = search needs
-
-cast-result : tie.Need-cast-result
-cast-result c = search needs
-
 returns : tie.Need-returns
 unfolding letter
 returns c = rw (lt-ltb _ 10 (c .if1 .taken), letter)
-
-add-result-2 : tie.Need-add-result-2
-add-result-2 c = search needs
-
-cast-result-2 : tie.Need-cast-result-2
-cast-result-2 c = search needs
 
 returns-2 : tie.Need-returns-2
 unfolding letter
@@ -27,4 +15,4 @@ returns-2 c = rw (le-ltb _ 10 (c .if1 .left), letter)
 
 pub letter-of-spec : {M : Type 1} → statement M
 letter-of-spec =
-    tie.close (tie.spec add-result cast-result returns add-result-2 cast-result-2 returns-2)
+    tie.close (tie.spec (λ c. search needs) (λ c. search needs) returns (λ c. search needs) (λ c. search needs) returns-2)

@@ -7,12 +7,6 @@ use borrow.Author.Needs.{needs}
 use Rattle.answer.proofs.put.Statement.{statement}
 use Rattle.answer.proofs.put.Tie as tie
 
-slice-write-out : tie.Need-slice-write-out
-slice-write-out c = search needs
-
-add-result : tie.Need-add-result
-add-result c = search needs
-
 same-length : tie.Need-same-length
 same-length c = ⊎-elim (λ w. ap length (w .1) ∙ simp length-set) (λ w. ap length (w .1)) (c .if1 .came)
 
@@ -20,4 +14,4 @@ returns : tie.Need-returns
 returns c = ⊎-elim (λ w. rw (w .1) (writes-one _ _ _)) (λ w. rw (w .1) (writes-past _ _ _ (w .0 .left))) (c .if1 .came)
 
 pub put-spec : {M : Type 1} → statement M
-put-spec = tie.close (tie.spec slice-write-out add-result same-length returns)
+put-spec = tie.close (tie.spec (λ c. search needs) (λ c. search needs) same-length returns)

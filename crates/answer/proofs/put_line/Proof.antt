@@ -25,14 +25,8 @@ loop-holds : tie.Need-loop-holds Inv-loop μ-loop
 unfolding sum digits
 loop-holds c = (search needs, search needs, search needs, refl, writes-none _ _)
 
-shared-slice-read-put-digits : tie.Need-shared-slice-read-put-digits Inv-loop μ-loop
-shared-slice-read-put-digits c = search needs
-
 put-digits-requires : tie.Need-put-digits-requires Inv-loop μ-loop
 put-digits-requires c κs = omega (arith, c .before .before .before .loop .inv .1)
-
-shared-slice-read-sum : tie.Need-shared-slice-read-sum Inv-loop μ-loop
-shared-slice-read-sum c = search needs
 
 cast-sum : tie.Need-cast-sum Inv-loop μ-loop
 cast-sum c = omega (arith, c .shared-slice-known3 .given (c .before .before .before .before .before .before .before .loop .j))
@@ -41,12 +35,6 @@ add-sum : tie.Need-add-sum Inv-loop μ-loop
 add-sum c =
     let l = c .before .before .before .before .before .before .before .loop in
     omega (arith, l .inv .2, c .shared-slice-known3 .given (l .j))
-
-add-j : tie.Need-add-j Inv-loop μ-loop
-add-j c = search needs
-
-loop-less : tie.Need-loop-less Inv-loop μ-loop
-loop-less c = search needs
 
 loop-again : tie.Need-loop-again Inv-loop μ-loop
 loop-again c =
@@ -59,12 +47,6 @@ loop-again c =
       sum-more _ _ (in-loop .loop-test .taken) _ (l .inv .3),
       line-more _ _ (in-loop .loop-test .taken) (l .inv .4) (called .put-digits .ensures),
     )
-
-sub-last : tie.Need-sub-last Inv-loop μ-loop
-sub-last c = search needs
-
-cast-put-digits : tie.Need-cast-put-digits Inv-loop μ-loop
-cast-put-digits c = search needs
 
 put-digits-requires-2 : tie.Need-put-digits-requires-2 Inv-loop μ-loop
 put-digits-requires-2 c κs = omega (arith, c .before .before .loop .inv .1)
@@ -92,16 +74,16 @@ put-line-spec =
     Inv-loop
     μ-loop
     loop-holds
-    shared-slice-read-put-digits
+    (λ c. search needs)
     put-digits-requires
-    shared-slice-read-sum
+    (λ c. search needs)
     cast-sum
     add-sum
-    add-j
-    loop-less
+    (λ c. search needs)
+    (λ c. search needs)
     loop-again
-    sub-last
-    cast-put-digits
+    (λ c. search needs)
+    (λ c. search needs)
     put-digits-requires-2
     put-requires
     same-length

@@ -25,36 +25,6 @@ loop-holds : tie.Need-loop-holds Inv-loop μ-loop
 unfolding stateLines
 loop-holds c = (search needs, search needs, writes-none _ _)
 
-mul-s : tie.Need-mul-s Inv-loop μ-loop
-mul-s c = search needs
-
-shared-slice-read-s : tie.Need-shared-slice-read-s Inv-loop μ-loop
-shared-slice-read-s c = search needs
-
-byte-of-requires : tie.Need-byte-of-requires Inv-loop μ-loop
-byte-of-requires c κs = search needs
-
-byte-of-requires-2 : tie.Need-byte-of-requires-2 Inv-loop μ-loop
-byte-of-requires-2 c κs = search needs
-
-byte-of-requires-3 : tie.Need-byte-of-requires-3 Inv-loop μ-loop
-byte-of-requires-3 c κs = search needs
-
-byte-of-requires-4 : tie.Need-byte-of-requires-4 Inv-loop μ-loop
-byte-of-requires-4 c κs = search needs
-
-slice-aggregate-put-line : tie.Need-slice-aggregate-put-line Inv-loop μ-loop
-slice-aggregate-put-line c = search needs
-
-put-line-requires : tie.Need-put-line-requires Inv-loop μ-loop
-put-line-requires c κs = search needs
-
-add-j : tie.Need-add-j Inv-loop μ-loop
-add-j c = search needs
-
-loop-less : tie.Need-loop-less Inv-loop μ-loop
-loop-less c = search needs
-
 loop-again : tie.Need-loop-again Inv-loop μ-loop
 loop-again c =
     let p = c .before .before in
@@ -81,16 +51,16 @@ put-states-spec =
     Inv-loop
     μ-loop
     loop-holds
-    mul-s
-    shared-slice-read-s
-    byte-of-requires
-    byte-of-requires-2
-    byte-of-requires-3
-    byte-of-requires-4
-    slice-aggregate-put-line
-    put-line-requires
-    add-j
-    loop-less
+    (λ c. search needs)
+    (λ c. search needs)
+    (λ c κs. search needs)
+    (λ c κs. search needs)
+    (λ c κs. search needs)
+    (λ c κs. search needs)
+    (λ c. search needs)
+    (λ c κs. search needs)
+    (λ c. search needs)
+    (λ c. search needs)
     loop-again
     same-length
     returns)

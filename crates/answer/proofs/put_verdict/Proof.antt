@@ -6,44 +6,8 @@ use borrow.Author.Needs.{needs}
 use Rattle.answer.proofs.put_verdict.Statement.{statement}
 use Rattle.answer.proofs.put_verdict.Tie as tie
 
-byte-of-requires : tie.Need-byte-of-requires
-byte-of-requires c κs = search needs
-
-byte-of-requires-2 : tie.Need-byte-of-requires-2
-byte-of-requires-2 c κs = search needs
-
-byte-of-requires-3 : tie.Need-byte-of-requires-3
-byte-of-requires-3 c κs = search needs
-
-byte-of-requires-4 : tie.Need-byte-of-requires-4
-byte-of-requires-4 c κs = search needs
-
-byte-of-requires-5 : tie.Need-byte-of-requires-5
-byte-of-requires-5 c κs = search needs
-
-byte-of-requires-6 : tie.Need-byte-of-requires-6
-byte-of-requires-6 c κs = search needs
-
-byte-of-requires-7 : tie.Need-byte-of-requires-7
-byte-of-requires-7 c κs = search needs
-
-byte-of-requires-8 : tie.Need-byte-of-requires-8
-byte-of-requires-8 c κs = search needs
-
-slice-aggregate-put-line : tie.Need-slice-aggregate-put-line
-slice-aggregate-put-line c = search needs
-
-put-line-requires : tie.Need-put-line-requires
-put-line-requires c κs = search needs
-
-add-put-states : tie.Need-add-put-states
-add-put-states c = search needs
-
 put-states-requires : tie.Need-put-states-requires
 put-states-requires c κs = (omega (arith, line-end _ (c .before .before .before .put-line .ensures)), search needs)
-
-same-length : tie.Need-same-length
-same-length c = search needs
 
 returns : tie.Need-returns
 returns c =
@@ -59,17 +23,17 @@ pub put-verdict-spec : {M : Type 1} → statement M
 put-verdict-spec =
     tie.close
     (tie.spec
-    byte-of-requires
-    byte-of-requires-2
-    byte-of-requires-3
-    byte-of-requires-4
-    byte-of-requires-5
-    byte-of-requires-6
-    byte-of-requires-7
-    byte-of-requires-8
-    slice-aggregate-put-line
-    put-line-requires
-    add-put-states
+    (λ c κs. search needs)
+    (λ c κs. search needs)
+    (λ c κs. search needs)
+    (λ c κs. search needs)
+    (λ c κs. search needs)
+    (λ c κs. search needs)
+    (λ c κs. search needs)
+    (λ c κs. search needs)
+    (λ c. search needs)
+    (λ c κs. search needs)
+    (λ c. search needs)
     put-states-requires
-    same-length
+    (λ c. search needs)
     returns)

@@ -5,30 +5,6 @@ use borrow.Author.Needs.{needs}
 use Rattle.answer.proofs.solve.Statement.{statement}
 use Rattle.answer.proofs.solve.Tie as tie
 
-slice-aggregate-search : tie.Need-slice-aggregate-search
-slice-aggregate-search c = search needs
-
-slice-aggregate-search-2 : tie.Need-slice-aggregate-search-2
-slice-aggregate-search-2 c = search needs
-
-slice-aggregate-search-3 : tie.Need-slice-aggregate-search-3
-slice-aggregate-search-3 c = search needs
-
-search-requires : tie.Need-search-requires
-search-requires c κs = search needs
-
-slice-aggregate-put-outcome : tie.Need-slice-aggregate-put-outcome
-slice-aggregate-put-outcome c = search needs
-
-slice-aggregate-put-outcome-2 : tie.Need-slice-aggregate-put-outcome-2
-slice-aggregate-put-outcome-2 c = search needs
-
-put-outcome-requires : tie.Need-put-outcome-requires
-put-outcome-requires c κs = search needs
-
-same-length : tie.Need-same-length
-same-length c = search needs
-
 returns : tie.Need-returns
 unfolding roomOf1024
 returns c =
@@ -41,12 +17,12 @@ pub solve-spec : {M : Type 1} → statement M
 solve-spec =
     tie.close
     (tie.spec
-    slice-aggregate-search
-    slice-aggregate-search-2
-    slice-aggregate-search-3
-    search-requires
-    slice-aggregate-put-outcome
-    slice-aggregate-put-outcome-2
-    put-outcome-requires
-    same-length
+    (λ c. search needs)
+    (λ c. search needs)
+    (λ c. search needs)
+    (λ c κs. search needs)
+    (λ c. search needs)
+    (λ c. search needs)
+    (λ c κs. search needs)
+    (λ c. search needs)
     returns)

@@ -1,44 +1,23 @@
--- `call::clear_levels` meets its contract. The loop's invariant: the store is j zeros, and behind them what it was. The measure is what is left
--- of the length. Assumes nothing.
-use Prim.Native.Nat.{_-_, _≤_}
-use mathlib.Core.List.{_++_}
-use mathlib.Core.Path.{_≡_}
+-- `call::clear_levels` meets its contract: its loop keeps `Cleared` of `Clearing.antt`. The measure is what is left of the length. Assumes nothing.
+use Prim.Native.Nat.{_-_}
 use native.Mathlib.Omega.{arith}
 use borrow.Author.Needs.{needs}
-use lib.ListN.{length, drop, replicate, length-set}
-use Rattle.call.proofs.Clearing.{cleared-more, cleared-all}
+use lib.ListN.{length}
+use Rattle.call.proofs.Clearing.{Cleared, cleared-more, cleared-all}
 use Rattle.call.proofs.clear_levels.Statement.{statement}
 use Rattle.call.proofs.clear_levels.Tie as tie
 
 abbrev Inv-loop : tie.InvT-loop
-Inv-loop levels₀ j₀ levels j = (j ≤ length levels₀) × ((length levels ≡ length levels₀) × (levels ≡ replicate j 0 ++ drop j levels₀))
+Inv-loop levels₀ j₀ levels j = Cleared levels₀ levels j
 
 abbrev μ-loop : tie.MeasureT-loop
 μ-loop levels₀ j₀ levels j = length levels₀ - j
 
-loop-holds : tie.Need-loop-holds Inv-loop μ-loop
-loop-holds c = search needs
-
-mul-levels : tie.Need-mul-levels Inv-loop μ-loop
-mul-levels c = search needs
-
-slice-write-levels : tie.Need-slice-write-levels Inv-loop μ-loop
-slice-write-levels c = search needs
-
-add-j : tie.Need-add-j Inv-loop μ-loop
-add-j c = search needs
-
-loop-less : tie.Need-loop-less Inv-loop μ-loop
-loop-less c = search needs
-
 loop-again : tie.Need-loop-again Inv-loop μ-loop
-loop-again c = (omega arith, (simp length-set (search needs), cleared-more _ _ _ (omega arith) (c .before .loop .inv .1 .1)))
-
-same-length : tie.Need-same-length Inv-loop μ-loop
-same-length c = search needs
+loop-again c = cleared-more (c .before .loop .inv) (omega arith)
 
 returns : tie.Need-returns Inv-loop μ-loop
-returns c = cleared-all _ (c .before .before .args .levels .now) (c .before .loop .j) (omega arith) (c .before .loop .inv .1 .1)
+returns c = cleared-all (c .before .loop .inv) (omega arith)
 
 pub clear-levels-spec : {M : Type 1} → statement M
 clear-levels-spec =
@@ -46,11 +25,11 @@ clear-levels-spec =
     (tie.spec
     Inv-loop
     μ-loop
-    loop-holds
-    mul-levels
-    slice-write-levels
-    add-j
-    loop-less
+    (λ c. search needs)
+    (λ c. search needs)
+    (λ c. search needs)
+    (λ c. search needs)
+    (λ c. search needs)
     loop-again
-    same-length
+    (λ c. search needs)
     returns)

@@ -18,9 +18,6 @@ returns-2 c =
     let a = c .before .before .args in
     rw (eq-eqb (length (a .states .now)) (length (a .levels .now)) (c .before .if1 .left), lt-ltb 65536 (length (a .states .now)) (c .if2 .taken))
 
-add-result : tie.Need-add-result
-add-result c = search needs
-
 returns-3 : tie.Need-returns-3
 unfolding wrongStores
 returns-3 c =
@@ -28,4 +25,4 @@ returns-3 c =
     rw (eq-eqb (length (a .states .now)) (length (a .levels .now)) (c .before .if1 .left), le-ltb 65536 (length (a .states .now)) (c .if2 .left))
 
 pub wrong-stores-spec : {M : Type 1} → statement M
-wrong-stores-spec = tie.close (tie.spec returns returns-2 add-result returns-3)
+wrong-stores-spec = tie.close (tie.spec returns returns-2 (λ c. search needs) returns-3)

@@ -1,22 +1,16 @@
 -- `evidence::check_excluded` meets its contract: each return is a case of the definition, which the promise follows from. Assumes nothing.
 use mathlib.Core.Path.{sym, ap, _∙_}
-use native.Mathlib.Omega.{arith}
 use borrow.Author.Needs.{needs}
 use borrow.Author.Tests.{not-true, not-false}
 use Rattle.question.specs.Question.{answered}
-use Rattle.evidence.proofs.Judging.{refused-small}
-use Rattle.evidence.proofs.Cases.{excluded-refused, excluded-start, excluded-bad, excluded-closed}
+use Rattle.evidence.specs.Check.{excludedStates}
+use Rattle.evidence.proofs.Judging.{number-checked, excluded-promised, refused-small}
+use Rattle.evidence.proofs.Cases.{excluded-start, excluded-bad, excluded-closed}
 use Rattle.evidence.proofs.check_excluded.Statement.{statement}
 use Rattle.evidence.proofs.check_excluded.Tie as tie
 
-refusal-requires : tie.Need-refusal-requires
-refusal-requires c κs = search needs
-
 returns : tie.Need-returns
-returns c = excluded-refused _ _ _ (c .before .refusal .ensures) (c .if1 .taken)
-
-start-free-requires : tie.Need-start-free-requires
-start-free-requires c κs = search needs
+returns c = excluded-promised _ _ _ (number-checked _ _ excludedStates _ (c .before .refusal .ensures) (c .if1 .taken))
 
 returns-2 : tie.Need-returns-2
 returns-2 c =
@@ -27,12 +21,6 @@ bad-outside-requires : tie.Need-bad-outside-requires
 bad-outside-requires c κs =
     let past = c .before .before in
     refused-small _ _ (sym (past .before .refusal .ensures) ∙ past .if1 .left)
-
-enum-told : tie.Need-enum-told
-enum-told c = search needs
-
-enum-told-2 : tie.Need-enum-told-2
-enum-told-2 c = search needs
 
 closed-requires : tie.Need-closed-requires
 closed-requires c κs =
@@ -59,13 +47,13 @@ pub check-excluded-spec : {M : Type 1} → statement M
 check-excluded-spec =
     tie.close
     (tie.spec
-    refusal-requires
+    (λ c κs. search needs)
     returns
-    start-free-requires
+    (λ c κs. search needs)
     returns-2
     bad-outside-requires
-    enum-told
-    enum-told-2
+    (λ c. search needs)
+    (λ c. search needs)
     closed-requires
     returns-3
     returns-4)

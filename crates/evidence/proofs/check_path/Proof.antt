@@ -1,29 +1,21 @@
 -- `evidence::check_path` meets its contract: each return is a case of the definition, which the promise follows from. Assumes nothing.
-use mathlib.Core.Path.{sym, ap, _∙_}
+use mathlib.Core.Path.{sym, _∙_}
 use native.Mathlib.Omega.{arith}
 use borrow.Author.Needs.{needs}
 use borrow.Author.Tests.{not-true, not-false}
-use Rattle.evidence.proofs.Judging.{refused-below}
-use Rattle.evidence.proofs.Cases.{path-refused, path-of-none, path-of-others, path-astray, path-to-bad}
+use Rattle.evidence.specs.Check.{pathOf}
+use Rattle.evidence.proofs.Judging.{number-checked, path-promised, refused-below}
+use Rattle.evidence.proofs.Cases.{path-of-none, path-of-others, path-astray, path-to-bad}
 use Rattle.evidence.proofs.check_path.Statement.{statement}
 use Rattle.evidence.proofs.check_path.Tie as tie
 
-refusal-requires : tie.Need-refusal-requires
-refusal-requires c κs = search needs
-
 returns : tie.Need-returns
-returns c = path-refused _ _ _ (c .before .refusal .ensures) (c .if1 .taken)
+returns c = path-promised _ _ _ (number-checked _ _ pathOf _ (c .before .refusal .ensures) (c .if1 .taken))
 
 returns-2 : tie.Need-returns-2
 returns-2 c =
     let past = c .before in
     path-of-none _ _ (sym (past .before .refusal .ensures) ∙ past .if1 .left) (c .if2 .taken)
-
-shared-slice-read-list-true : tie.Need-shared-slice-read-list-true
-shared-slice-read-list-true c = search needs
-
-list-true-requires : tie.Need-list-true-requires
-list-true-requires c κs = search needs
 
 returns-3 : tie.Need-returns-3
 returns-3 c =
@@ -55,11 +47,11 @@ pub check-path-spec : {M : Type 1} → statement M
 check-path-spec =
     tie.close
     (tie.spec
-    refusal-requires
+    (λ c κs. search needs)
     returns
     returns-2
-    shared-slice-read-list-true
-    list-true-requires
+    (λ c. search needs)
+    (λ c κs. search needs)
     returns-3
     leads-on-requires
     returns-4

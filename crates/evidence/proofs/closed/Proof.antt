@@ -24,36 +24,12 @@ abbrev μ-loop : tie.MeasureT-loop
 loop-holds : tie.Need-loop-holds Inv-loop μ-loop
 loop-holds c = (search needs, search needs, refl)
 
-mul-step-outside : tie.Need-mul-step-outside Inv-loop μ-loop
-mul-step-outside c = search needs
-
-shared-slice-read-step-outside : tie.Need-shared-slice-read-step-outside Inv-loop μ-loop
-shared-slice-read-step-outside c = search needs
-
-step-outside-requires : tie.Need-step-outside-requires Inv-loop μ-loop
-step-outside-requires c κs = search needs
-
-add-asked : tie.Need-add-asked Inv-loop μ-loop
-add-asked c = search needs
-
-enum-told : tie.Need-enum-told Inv-loop μ-loop
-enum-told c = search needs
-
-enum-told-2 : tie.Need-enum-told-2 Inv-loop μ-loop
-enum-told-2 c = search needs
-
 returns : tie.Need-returns Inv-loop μ-loop
 returns c =
     let called = c .before .before in
     let in-loop = called .before .before in
     sym (in-loop .before .loop .inv .2
     ∙ closed-stops _ _ _ _ _ _ (in-loop .loop-test .taken) _ (sym (called .step-outside .ensures) ∙ ap answered (c .enum-told2 .given .1)))
-
-add-j : tie.Need-add-j Inv-loop μ-loop
-add-j c = search needs
-
-loop-less : tie.Need-loop-less Inv-loop μ-loop
-loop-less c = search needs
 
 loop-again : tie.Need-loop-again Inv-loop μ-loop
 loop-again c =
@@ -75,14 +51,14 @@ closed-spec =
     Inv-loop
     μ-loop
     loop-holds
-    mul-step-outside
-    shared-slice-read-step-outside
-    step-outside-requires
-    add-asked
-    enum-told
-    enum-told-2
+    (λ c. search needs)
+    (λ c. search needs)
+    (λ c κs. search needs)
+    (λ c. search needs)
+    (λ c. search needs)
+    (λ c. search needs)
     returns
-    add-j
-    loop-less
+    (λ c. search needs)
+    (λ c. search needs)
     loop-again
     returns-2)

@@ -1,7 +1,7 @@
 -- `evidence::leads_on` meets its contract. The loop's invariant: from index j on the path leads where the whole path leads. The measure is what is left
 -- of the length. A word has both states, as each is below 2^32. Assumes nothing.
-use Prim.Native.Nat.{_+_, _^_, _<_, _≤_, _-_}
-use mathlib.Core.Path.{_≡_, refl, sym, ap, _∙_}
+use Prim.Native.Nat.{_<_, _-_}
+use mathlib.Core.Path.{_≡_, refl, sym, _∙_}
 use native.Mathlib.Omega.{arith}
 use borrow.Author.Needs.{needs}
 use borrow.Author.Tests.{not-true, not-false}
@@ -25,24 +25,6 @@ abbrev μ-loop : tie.MeasureT-loop
 loop-holds : tie.Need-loop-holds Inv-loop μ-loop
 loop-holds c = (search needs, refl)
 
-add-loop : tie.Need-add-loop Inv-loop μ-loop
-add-loop c = search needs
-
-mul-list-true : tie.Need-mul-list-true Inv-loop μ-loop
-mul-list-true c = search needs
-
-shared-slice-read-list-true : tie.Need-shared-slice-read-list-true Inv-loop μ-loop
-shared-slice-read-list-true c = search needs
-
-add-list-true : tie.Need-add-list-true Inv-loop μ-loop
-add-list-true c = search needs
-
-mul-list-true-2 : tie.Need-mul-list-true-2 Inv-loop μ-loop
-mul-list-true-2 c = search needs
-
-shared-slice-read-list-true-2 : tie.Need-shared-slice-read-list-true-2 Inv-loop μ-loop
-shared-slice-read-list-true-2 c = search needs
-
 mul-list-true-3 : tie.Need-mul-list-true-3 Inv-loop μ-loop
 mul-list-true-3 c =
     let at-loop = c .before .before .before in
@@ -55,9 +37,6 @@ add-list-true-2 c =
     let small = at-loop .before .before .before .before .pre .1 in
     record { fits = omega (arith, below-at _ _ _ (c .before .before .loop-test .taken) small, below-at _ _ _ (at-loop .loop .inv .0) small) }
 
-list-true-requires : tie.Need-list-true-requires Inv-loop μ-loop
-list-true-requires c κs = search needs
-
 returns : tie.Need-returns Inv-loop μ-loop
 unfolding word
 returns c =
@@ -65,12 +44,6 @@ returns c =
     let in-loop = called .before .before .before in
     sym (in-loop .before .loop .inv .1
     ∙ leads-stops _ _ _ _ (in-loop .loop-test .taken) (sym (called .list-true .ensures) ∙ not-true _ (c .if1 .taken)))
-
-add-j : tie.Need-add-j Inv-loop μ-loop
-add-j c = search needs
-
-loop-less : tie.Need-loop-less Inv-loop μ-loop
-loop-less c = search needs
 
 loop-again : tie.Need-loop-again Inv-loop μ-loop
 unfolding word
@@ -81,15 +54,6 @@ loop-again c =
       in-loop .before .loop .inv .1
           ∙ leads-passes _ _ _ _ (in-loop .loop-test .taken) (sym (called .list-true .ensures) ∙ not-false _ (c .if1 .left)),
     )
-
-mul-list-true-4 : tie.Need-mul-list-true-4 Inv-loop μ-loop
-mul-list-true-4 c = search needs
-
-shared-slice-read-list-true-3 : tie.Need-shared-slice-read-list-true-3 Inv-loop μ-loop
-shared-slice-read-list-true-3 c = search needs
-
-list-true-requires-2 : tie.Need-list-true-requires-2 Inv-loop μ-loop
-list-true-requires-2 c κs = search needs
 
 returns-2 : tie.Need-returns-2 Inv-loop μ-loop
 returns-2 c =
@@ -103,20 +67,20 @@ leads-on-spec =
     Inv-loop
     μ-loop
     loop-holds
-    add-loop
-    mul-list-true
-    shared-slice-read-list-true
-    add-list-true
-    mul-list-true-2
-    shared-slice-read-list-true-2
+    (λ c. search needs)
+    (λ c. search needs)
+    (λ c. search needs)
+    (λ c. search needs)
+    (λ c. search needs)
+    (λ c. search needs)
     mul-list-true-3
     add-list-true-2
-    list-true-requires
+    (λ c κs. search needs)
     returns
-    add-j
-    loop-less
+    (λ c. search needs)
+    (λ c. search needs)
     loop-again
-    mul-list-true-4
-    shared-slice-read-list-true-3
-    list-true-requires-2
+    (λ c. search needs)
+    (λ c. search needs)
+    (λ c κs. search needs)
     returns-2)

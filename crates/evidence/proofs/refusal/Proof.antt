@@ -1,15 +1,11 @@
 -- `evidence::refusal` meets its contract: the system's own refusals come first; past them n is at most 32. Assumes nothing.
 use mathlib.Core.Bool.{true, false}
-use mathlib.Core.Path.{refl, sym, _∙_}
-use native.Mathlib.Omega.{arith}
+use mathlib.Core.Path.{sym, _∙_}
 use borrow.Author.Needs.{needs}
 use Rattle.system.proofs.Refusals.{size-right, refusal-none}
 use Rattle.evidence.proofs.Judging.{number-refused, refused-states}
 use Rattle.evidence.proofs.refusal.Statement.{statement}
 use Rattle.evidence.proofs.refusal.Tie as tie
-
-refusal-requires : tie.Need-refusal-requires
-refusal-requires c κs = search needs
 
 returns : tie.Need-returns
 returns c = number-refused _ _ _ (c .before .refusal .ensures) (c .if1 .taken)
@@ -28,4 +24,4 @@ returns-3 c =
     sym (refused-states _ _ false (sym (past .before .refusal .ensures) ∙ past .if1 .left) (sym (c .before .all-below .ensures) ∙ c .if2 .left))
 
 pub refusal-spec : {M : Type 1} → statement M
-refusal-spec = tie.close (tie.spec refusal-requires returns all-below-requires returns-2 returns-3)
+refusal-spec = tie.close (tie.spec (λ c κs. search needs) returns all-below-requires returns-2 returns-3)

@@ -6,23 +6,8 @@ use Rattle.house.proofs.Digits.{digit-most}
 use Rattle.house.proofs.byte_at.Statement.{statement}
 use Rattle.house.proofs.byte_at.Tie as tie
 
-shared-slice-read-digit-value : tie.Need-shared-slice-read-digit-value
-shared-slice-read-digit-value c = search needs
-
-digit-value-requires : tie.Need-digit-value-requires
-digit-value-requires c κs = search needs
-
 mul-result : tie.Need-mul-result
 mul-result c = record { fits = omega (arith, digit-most _ (c .digit-value .ensures)) }
-
-add-digit-value : tie.Need-add-digit-value
-add-digit-value c = search needs
-
-shared-slice-read-digit-value-2 : tie.Need-shared-slice-read-digit-value-2
-shared-slice-read-digit-value-2 c = search needs
-
-digit-value-requires-2 : tie.Need-digit-value-requires-2
-digit-value-requires-2 c κs = search needs
 
 add-result : tie.Need-add-result
 add-result c =
@@ -36,11 +21,11 @@ pub byte-at-spec : {M : Type 1} → statement M
 byte-at-spec =
     tie.close
     (tie.spec
-    shared-slice-read-digit-value
-    digit-value-requires
+    (λ c. search needs)
+    (λ c κs. search needs)
     mul-result
-    add-digit-value
-    shared-slice-read-digit-value-2
-    digit-value-requires-2
+    (λ c. search needs)
+    (λ c. search needs)
+    (λ c κs. search needs)
     add-result
     returns)

@@ -8,14 +8,8 @@ use borrow.Author.Needs.{needs}
 use Rattle.house.proofs.digit_value.Statement.{statement}
 use Rattle.house.proofs.digit_value.Tie as tie
 
-sub-result : tie.Need-sub-result
-sub-result c = search needs
-
 returns : tie.Need-returns
 returns c = sym (digit-number _ (c .before .if1 .taken) (leb-true _ _ (c .if2 .taken)))
-
-sub-result-2 : tie.Need-sub-result-2
-sub-result-2 c = search needs
 
 returns-2 : tie.Need-returns-2
 returns-2 c = sym (digit-letter _ (c .before .if3 .taken) (leb-true _ _ (c .if4 .taken)))
@@ -27,4 +21,4 @@ returns-3 c =
     (⊎-elim (λ t. inr (leb-false _ _ (t .1 .left))) (λ t. inl (omega arith)) (c .if3 .came)))
 
 pub digit-value-spec : {M : Type 1} → statement M
-digit-value-spec = tie.close (tie.spec sub-result returns sub-result-2 returns-2 returns-3)
+digit-value-spec = tie.close (tie.spec (λ c. search needs) returns (λ c. search needs) returns-2 returns-3)

@@ -20,32 +20,11 @@ returns c = no-frame _ _ _ (c .before .before .pre .within) (λ frame w pos most
 returns-2 : tie.Need-returns-2 Inv-loop μ-loop
 returns-2 c = no-frame _ _ _ (c .before .before .before .pre .within) (λ frame w pos most. omega (arith, w .size))
 
-add-if3 : tie.Need-add-if3 Inv-loop μ-loop
-add-if3 c = search needs
-
-sub-if3 : tie.Need-sub-if3 Inv-loop μ-loop
-sub-if3 c = search needs
-
-shared-slice-read-if3 : tie.Need-shared-slice-read-if3 Inv-loop μ-loop
-shared-slice-read-if3 c = search needs
-
 returns-3 : tie.Need-returns-3 Inv-loop μ-loop
 returns-3 c = no-frame _ _ _ (c .before .before .before .before .before .pre .within) (λ frame w pos most. c .if3 .taken (w .last))
 
 loop-holds : tie.Need-loop-holds Inv-loop μ-loop
 loop-holds c = (search needs, λ k l. absurd (omega arith))
-
-add-loop : tie.Need-add-loop Inv-loop μ-loop
-add-loop c = search needs
-
-add-digit-value : tie.Need-add-digit-value Inv-loop μ-loop
-add-digit-value c = search needs
-
-shared-slice-read-digit-value : tie.Need-shared-slice-read-digit-value Inv-loop μ-loop
-shared-slice-read-digit-value c = search needs
-
-digit-value-requires : tie.Need-digit-value-requires Inv-loop μ-loop
-digit-value-requires c κs = search needs
 
 returns-4 : tie.Need-returns-4 Inv-loop μ-loop
 returns-4 c =
@@ -53,12 +32,6 @@ returns-4 c =
     let line = in-loop .before .before .before .before .before .before .before .pre in
     no-frame _ _ _ (line .within)
     (λ frame w pos most. omega (arith, w .size, w .digits (in-loop .before .loop .j) (omega (arith, w .size)), c .before .digit-value .ensures))
-
-add-j : tie.Need-add-j Inv-loop μ-loop
-add-j c = search needs
-
-loop-less : tie.Need-loop-less Inv-loop μ-loop
-loop-less c = search needs
 
 loop-again : tie.Need-loop-again Inv-loop μ-loop
 loop-again c =
@@ -80,17 +53,17 @@ frame-length-spec =
     μ-loop
     returns
     returns-2
-    add-if3
-    sub-if3
-    shared-slice-read-if3
+    (λ c. search needs)
+    (λ c. search needs)
+    (λ c. search needs)
     returns-3
     loop-holds
-    add-loop
-    add-digit-value
-    shared-slice-read-digit-value
-    digit-value-requires
+    (λ c. search needs)
+    (λ c. search needs)
+    (λ c. search needs)
+    (λ c κs. search needs)
     returns-4
-    add-j
-    loop-less
+    (λ c. search needs)
+    (λ c. search needs)
     loop-again
     returns-5)

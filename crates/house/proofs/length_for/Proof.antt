@@ -12,9 +12,6 @@ returns c = sym (length-size _ (c .if1 .taken))
 returns-2 : tie.Need-returns-2
 returns-2 c = sym (length-count _ (c .if2 .taken))
 
-mask-width-requires : tie.Need-mask-width-requires
-mask-width-requires c κs = search needs
-
 mul-result : tie.Need-mul-result
 mul-result c = record { fits = omega (arith, width-most _ (c .mask-width .ensures)) }
 
@@ -26,4 +23,4 @@ returns-3 c = omega (arith, c .mask-width .ensures, length-clause _ (c .before .
 
 pub length-for-spec : {M : Type 1} → statement M
 length-for-spec =
-    tie.close (tie.spec returns returns-2 mask-width-requires mul-result add-result returns-3)
+    tie.close (tie.spec returns returns-2 (λ c κs. search needs) mul-result add-result returns-3)

@@ -1,7 +1,7 @@
 -- `house::number_at` meets its contract. The loop's invariant: the number so far is that of the first j bytes. With at most seven of them below 256
 -- there is room for one more. The measure is what is left of them. Assumes nothing.
 use Prim.Native.Nat.{_-_, _≤_}
-use mathlib.Core.Path.{_≡_, refl, ap, _∙_}
+use mathlib.Core.Path.{_≡_, refl}
 use native.Mathlib.Omega.{arith}
 use borrow.Author.Needs.{needs}
 use Rattle.house.specs.Text.{number}
@@ -26,18 +26,6 @@ mul-high c =
     let small = at-loop .before .before .pre .small in
     record { fits = omega (arith, number-seven _ _ _ (omega arith) (λ k l. small k (omega arith)) (at-loop .loop .inv .1)) }
 
-mul-byte-at : tie.Need-mul-byte-at Inv-loop μ-loop
-mul-byte-at c = search needs
-
-add-byte-at : tie.Need-add-byte-at Inv-loop μ-loop
-add-byte-at c = search needs
-
-byte-at-requires : tie.Need-byte-at-requires Inv-loop μ-loop
-byte-at-requires c κs = search needs
-
-cast-high : tie.Need-cast-high Inv-loop μ-loop
-cast-high c = search needs
-
 add-high : tie.Need-add-high Inv-loop μ-loop
 add-high c =
     let at-loop = c .before .before in
@@ -51,20 +39,13 @@ add-high c =
       );
     }
 
-add-j : tie.Need-add-j Inv-loop μ-loop
-add-j c = search needs
-
-loop-less : tie.Need-loop-less Inv-loop μ-loop
-loop-less c = search needs
-
 loop-again : tie.Need-loop-again Inv-loop μ-loop
 loop-again c = (omega arith, number-more _ _ _ (c .before .before .loop .inv .1) (c .byte-at .ensures))
 
 returns : tie.Need-returns Inv-loop μ-loop
 returns c =
-    let args = c .before .before .before .args in
-    let all : c .before .loop .j ≡ args .count = omega arith in
-    c .before .loop .inv .1 ∙ ap (λ x. number 0 (frameAt (args .text .now) (args .at) x)) all
+    let all : c .before .loop .j ≡ c .before .before .before .args .count = omega arith in
+    rw all at (c .before .loop .inv .1)
 
 pub number-at-spec : {M : Type 1} → statement M
 number-at-spec =
@@ -74,12 +55,12 @@ number-at-spec =
     μ-loop
     loop-holds
     mul-high
-    mul-byte-at
-    add-byte-at
-    byte-at-requires
-    cast-high
+    (λ c. search needs)
+    (λ c. search needs)
+    (λ c κs. search needs)
+    (λ c. search needs)
     add-high
-    add-j
-    loop-less
+    (λ c. search needs)
+    (λ c. search needs)
     loop-again
     returns)

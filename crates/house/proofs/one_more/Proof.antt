@@ -12,11 +12,8 @@ returns c = more-last _ _ _ _ _ _ (omega arith)
 returns-2 : tie.Need-returns-2
 returns-2 c = more-full _ _ _ _ _ _ (omega arith) (not-true _ (c .if2 .taken))
 
-add-t8 : tie.Need-add-t8
-add-t8 c = search needs
-
 returns-3 : tie.Need-returns-3
 returns-3 c = more-on _ _ _ _ _ _ (omega arith) (not-false _ (c .before .if2 .left))
 
 pub one-more-spec : {M : Type 1} → statement M
-one-more-spec = tie.close (tie.spec returns returns-2 add-t8 returns-3)
+one-more-spec = tie.close (tie.spec returns returns-2 (λ c. search needs) returns-3)

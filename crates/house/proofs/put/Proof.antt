@@ -9,23 +9,8 @@ use Rattle.house.proofs.put.Tie as tie
 returns : tie.Need-returns
 returns c = put-not _ _ _ _ (omega arith)
 
-sub-if2 : tie.Need-sub-if2
-sub-if2 c = search needs
-
 returns-2 : tie.Need-returns-2
 returns-2 c = put-not _ _ _ _ (omega arith)
-
-mul-store : tie.Need-mul-store
-mul-store c = search needs
-
-slice-write-store : tie.Need-slice-write-store
-slice-write-store c = search needs
-
-add-store : tie.Need-add-store
-add-store c = search needs
-
-mul-store-2 : tie.Need-mul-store-2
-mul-store-2 c = search needs
 
 slice-write-store-2 : tie.Need-slice-write-store-2
 slice-write-store-2 c = simp length-set (omega arith)
@@ -41,12 +26,12 @@ put-spec =
     tie.close
     (tie.spec
     returns
-    sub-if2
+    (λ c. search needs)
     returns-2
-    mul-store
-    slice-write-store
-    add-store
-    mul-store-2
+    (λ c. search needs)
+    (λ c. search needs)
+    (λ c. search needs)
+    (λ c. search needs)
     slice-write-store-2
     same-length
     returns-3)

@@ -1,7 +1,7 @@
 -- `house::sum_of` meets its contract. The loop's invariant: the total is the sum of the first j bytes, each at most 272. The measure is what is left
 -- of them. Assumes nothing.
 use Prim.Native.Nat.{_-_, _*_, _≤_}
-use mathlib.Core.Path.{_≡_, refl, ap, _∙_}
+use mathlib.Core.Path.{_≡_, refl}
 use native.Mathlib.Omega.{arith}
 use borrow.Author.Needs.{needs}
 use Rattle.house.specs.Text.{sum}
@@ -21,23 +21,8 @@ loop-holds : tie.Need-loop-holds Inv-loop μ-loop
 unfolding sum frameAt
 loop-holds c = (search needs, search needs, refl)
 
-mul-byte-at : tie.Need-mul-byte-at Inv-loop μ-loop
-mul-byte-at c = search needs
-
-add-byte-at : tie.Need-add-byte-at Inv-loop μ-loop
-add-byte-at c = search needs
-
-byte-at-requires : tie.Need-byte-at-requires Inv-loop μ-loop
-byte-at-requires c κs = search needs
-
 add-total : tie.Need-add-total Inv-loop μ-loop
 add-total c = record { fits = omega (arith, byte-most _ _ (c .byte-at .ensures)) }
-
-add-j : tie.Need-add-j Inv-loop μ-loop
-add-j c = search needs
-
-loop-less : tie.Need-loop-less Inv-loop μ-loop
-loop-less c = search needs
 
 loop-again : tie.Need-loop-again Inv-loop μ-loop
 loop-again c =
@@ -46,9 +31,8 @@ loop-again c =
 
 returns : tie.Need-returns Inv-loop μ-loop
 returns c =
-    let args = c .before .before .before .args in
-    let all : c .before .loop .j ≡ args .count = omega arith in
-    c .before .loop .inv .2 ∙ ap (λ x. sum (frameAt (args .text .now) (args .at) x)) all
+    let all : c .before .loop .j ≡ c .before .before .before .args .count = omega arith in
+    rw all at (c .before .loop .inv .2)
 
 pub sum-of-spec : {M : Type 1} → statement M
 sum-of-spec =
@@ -57,11 +41,11 @@ sum-of-spec =
     Inv-loop
     μ-loop
     loop-holds
-    mul-byte-at
-    add-byte-at
-    byte-at-requires
+    (λ c. search needs)
+    (λ c. search needs)
+    (λ c κs. search needs)
     add-total
-    add-j
-    loop-less
+    (λ c. search needs)
+    (λ c. search needs)
     loop-again
     returns)

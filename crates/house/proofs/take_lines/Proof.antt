@@ -18,32 +18,11 @@ abbrev μ-loop : tie.MeasureT-loop
 
 loop-holds : tie.Need-loop-holds Inv-loop μ-loop
 loop-holds c =
-    let start = c .before .before .before .before in
-    taking-first _ _ _ (start .pre .0) (start .pre .1)
-
-line-length-requires : tie.Need-line-length-requires Inv-loop μ-loop
-line-length-requires c κs = search needs
+    let pre = c .before .before .before .before .pre in
+    taking-first _ _ _ (pre .0) (pre .1)
 
 take-line-requires : tie.Need-take-line-requires Inv-loop μ-loop
 take-line-requires c κs = (c .before .before .before .line-length .ensures, c .before .before .before .before .before .loop .inv .lie)
-
-enum-known-t : tie.Need-enum-known-t Inv-loop μ-loop
-enum-known-t c = search needs
-
-enum-known-t-2 : tie.Need-enum-known-t-2 Inv-loop μ-loop
-enum-known-t-2 c = search needs
-
-refused-at-requires : tie.Need-refused-at-requires Inv-loop μ-loop
-refused-at-requires c κs = search needs
-
-same-length : tie.Need-same-length Inv-loop μ-loop
-same-length c = search needs
-
-same-length-2 : tie.Need-same-length-2 Inv-loop μ-loop
-same-length-2 c = search needs
-
-same-length-3 : tie.Need-same-length-3 Inv-loop μ-loop
-same-length-3 c = search needs
 
 returns : tie.Need-returns Inv-loop μ-loop
 returns c =
@@ -52,16 +31,7 @@ returns c =
     let read = call .before .before .before .before in
     let loop = read .before .before .loop in
     rw (c .refused-at .ensures)
-    (taking-refused _ _ _ _ _ _ _ (loop .inv) _ (read .line-length .ensures) _ _ (rw (told .t2 .given .1) at (call .take-line .ensures)))
-
-add-i : tie.Need-add-i Inv-loop μ-loop
-add-i c = search needs
-
-add-line : tie.Need-add-line Inv-loop μ-loop
-add-line c = search needs
-
-loop-less : tie.Need-loop-less Inv-loop μ-loop
-loop-less c = search needs
+    (taking-refused (loop .inv) (read .line-length .ensures) (rw (told .t2 .given .1) at (call .take-line .ensures)))
 
 loop-again : tie.Need-loop-again Inv-loop μ-loop
 loop-again c =
@@ -69,38 +39,14 @@ loop-again c =
     let call = told .before .before .before .before .before .before .before .before in
     let read = call .before .before .before .before in
     let loop = read .before .before .loop in
-    taking-on _ _ _ _ _ _ _ (loop .inv) _ (read .line-length .ensures) _ _ (rw (told .t .given .1) at (call .take-line .ensures))
-
-refused-at-requires-2 : tie.Need-refused-at-requires-2 Inv-loop μ-loop
-refused-at-requires-2 c κs = search needs
-
-same-length-4 : tie.Need-same-length-4 Inv-loop μ-loop
-same-length-4 c = search needs
-
-same-length-5 : tie.Need-same-length-5 Inv-loop μ-loop
-same-length-5 c = search needs
-
-same-length-6 : tie.Need-same-length-6 Inv-loop μ-loop
-same-length-6 c = search needs
+    taking-on (loop .inv) (read .line-length .ensures) (rw (told .t .given .1) at (call .take-line .ensures))
 
 returns-2 : tie.Need-returns-2 Inv-loop μ-loop
 returns-2 c =
-    let end = c .before .before .before in
-    rw (c .refused-at2 .ensures) (taking-stopped _ _ _ _ _ _ _ (end .before .loop .inv) (omega arith) (c .before .if1 .taken))
-
-same-length-7 : tie.Need-same-length-7 Inv-loop μ-loop
-same-length-7 c = search needs
-
-same-length-8 : tie.Need-same-length-8 Inv-loop μ-loop
-same-length-8 c = search needs
-
-same-length-9 : tie.Need-same-length-9 Inv-loop μ-loop
-same-length-9 c = search needs
+    rw (c .refused-at2 .ensures) (taking-stopped (c .before .before .before .before .loop .inv) (omega arith) (c .before .if1 .taken))
 
 returns-3 : tie.Need-returns-3 Inv-loop μ-loop
-returns-3 c =
-    let end = c .before .before in
-    taking-ended _ _ _ _ _ _ _ (end .before .loop .inv) (omega arith) (c .if1 .left)
+returns-3 c = taking-ended (c .before .before .before .loop .inv) (omega arith) (c .if1 .left)
 
 pub take-lines-spec : {M : Type 1} → statement M
 take-lines-spec =
@@ -109,25 +55,25 @@ take-lines-spec =
     Inv-loop
     μ-loop
     loop-holds
-    line-length-requires
+    (λ c κs. search needs)
     take-line-requires
-    enum-known-t
-    enum-known-t-2
-    refused-at-requires
-    same-length
-    same-length-2
-    same-length-3
+    (λ c. search needs)
+    (λ c. search needs)
+    (λ c κs. search needs)
+    (λ c. search needs)
+    (λ c. search needs)
+    (λ c. search needs)
     returns
-    add-i
-    add-line
-    loop-less
+    (λ c. search needs)
+    (λ c. search needs)
+    (λ c. search needs)
     loop-again
-    refused-at-requires-2
-    same-length-4
-    same-length-5
-    same-length-6
+    (λ c κs. search needs)
+    (λ c. search needs)
+    (λ c. search needs)
+    (λ c. search needs)
     returns-2
-    same-length-7
-    same-length-8
-    same-length-9
+    (λ c. search needs)
+    (λ c. search needs)
+    (λ c. search needs)
     returns-3)

@@ -5,14 +5,8 @@ use Rattle.masks.proofs.OneBit.{pow-past}
 use Rattle.masks.proofs.power.Statement.{statement}
 use Rattle.masks.proofs.power.Tie as tie
 
-shl-result : tie.Need-shl-result
-shl-result c = search needs
-
-returns : tie.Need-returns
-returns c = search needs
-
 returns-2 : tie.Need-returns-2
 returns-2 c = sym (pow-past 64 _ (c .if1 .left))
 
 pub power-spec : {M : Type 1} → statement M
-power-spec = tie.close (tie.spec shl-result returns returns-2)
+power-spec = tie.close (tie.spec (λ c. search needs) (λ c. search needs) returns-2)

@@ -4,12 +4,6 @@ use Rattle.question.proofs.States.{level-there, level-missing}
 use Rattle.question.proofs.at_level.Statement.{statement}
 use Rattle.question.proofs.at_level.Tie as tie
 
-mul-result : tie.Need-mul-result
-mul-result c = search needs
-
-shared-slice-read-result : tie.Need-shared-slice-read-result
-shared-slice-read-result c = search needs
-
 returns : tie.Need-returns
 returns c =
     let s = c .before .before .args in
@@ -21,4 +15,4 @@ returns-2 c =
     level-missing (s .i) (s .levels .now) (s .j) (c .if1 .left)
 
 pub at-level-spec : {M : Type 1} → statement M
-at-level-spec = tie.close (tie.spec mul-result shared-slice-read-result returns returns-2)
+at-level-spec = tie.close (tie.spec (λ c. search needs) (λ c. search needs) returns returns-2)

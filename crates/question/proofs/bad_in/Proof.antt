@@ -6,13 +6,8 @@ use Rattle.question.proofs.Conditions.{bad-step}
 use Rattle.question.proofs.bad_in.Statement.{statement}
 use Rattle.question.proofs.bad_in.Tie as tie
 
-step-in-requires : tie.Need-step-in-requires
-step-in-requires c κs = search needs
-
 returns : tie.Need-returns
-returns c =
-    let s = c .before .before .before .before .before in
-    c .step-in .ensures ∙ sym (bad-step (s .args .n) (s .args .start .now) (s .args .bad .now) (s .args .states .now) (s .args .levels .now) (s .args .i))
+returns c = c .step-in .ensures ∙ sym (bad-step _ _ _ _ _ _)
 
 pub bad-in-spec : {M : Type 1} → statement M
-bad-in-spec = tie.close (tie.spec step-in-requires returns)
+bad-in-spec = tie.close (tie.spec (λ c κs. search needs) returns)

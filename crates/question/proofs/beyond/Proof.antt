@@ -8,9 +8,6 @@ use Rattle.masks.proofs.OneBit.{shift-one}
 use Rattle.question.proofs.beyond.Statement.{statement}
 use Rattle.question.proofs.beyond.Tie as tie
 
-shl-result : tie.Need-shl-result
-shl-result c = search needs
-
 sub-result : tie.Need-sub-result
 sub-result c = rw (shift-one 64 (c .before .args .n) (omega arith)) (pow-pos (c .before .args .n))
 
@@ -20,13 +17,10 @@ returns c =
     let e : min n 32 ≡ n = omega arith in
     rw (shift-one 64 n (omega arith), e) (omega (arith, pow-pos n))
 
-sub-result-2 : tie.Need-sub-result-2
-sub-result-2 c = search needs
-
 returns-2 : tie.Need-returns-2
 returns-2 c =
     let e : min (c .before .args .n) 32 ≡ 32 = omega arith in
     rw e
 
 pub beyond-spec : {M : Type 1} → statement M
-beyond-spec = tie.close (tie.spec shl-result sub-result returns sub-result-2 returns-2)
+beyond-spec = tie.close (tie.spec (λ c. search needs) sub-result returns (λ c. search needs) returns-2)

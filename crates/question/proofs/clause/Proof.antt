@@ -8,12 +8,6 @@ use Rattle.question.proofs.Forcing.{lowest-below, clause-fails, clause-
 use Rattle.question.proofs.clause.Statement.{statement}
 use Rattle.question.proofs.clause.Tie as tie
 
-returns : tie.Need-returns
-returns c = search needs
-
-returns-2 : tie.Need-returns-2
-returns-2 c = search needs
-
 returns-3 : tie.Need-returns-3
 returns-3 c =
     let s = c .before .before .before in
@@ -32,12 +26,6 @@ shl-if4 c =
     let s = c .before .before .before in
     lowest-below _ _ _ (s .fits .ones .fits) (s .fits .zeros .fits) (c .if3 .left)
 
-returns-4 : tie.Need-returns-4
-returns-4 c = search needs
-
-returns-5 : tie.Need-returns-5
-returns-5 c = search needs
-
 returns-6 : tie.Need-returns-6
 returns-6 c =
     let s = c .before .before .before .before .before in
@@ -53,4 +41,4 @@ returns-6 c =
 
 pub clause-spec : {M : Type 1} → statement M
 clause-spec =
-    tie.close (tie.spec returns returns-2 returns-3 cast-if4 shl-if4 returns-4 returns-5 returns-6)
+    tie.close (tie.spec (λ c. search needs) (λ c. search needs) returns-3 cast-if4 shl-if4 (λ c. search needs) (λ c. search needs) returns-6)

@@ -7,20 +7,11 @@ use Rattle.question.proofs.States.{fulfils-excluded, fulfils-low-false,
 use Rattle.question.proofs.fulfilled.Statement.{statement}
 use Rattle.question.proofs.fulfilled.Tie as tie
 
-is-excluded-requires : tie.Need-is-excluded-requires
-is-excluded-requires c κs = search needs
-
 returns : tie.Need-returns
 returns c = sym (fulfils-excluded _ _ _ _ _ _ (sym (c .before .is-excluded .ensures) ∙ c .if1 .taken))
 
-list-true-requires : tie.Need-list-true-requires
-list-true-requires c κs = search needs
-
 returns-2 : tie.Need-returns-2
 returns-2 c = sym (fulfils-low-false _ _ _ _ _ _ (sym (c .before .list-true .ensures) ∙ not-true _ (c .if2 .taken)))
-
-list-true-requires-2 : tie.Need-list-true-requires-2
-list-true-requires-2 c κs = search needs
 
 returns-3 : tie.Need-returns-3
 returns-3 c =
@@ -35,9 +26,9 @@ pub fulfilled-spec : {M : Type 1} → statement M
 fulfilled-spec =
     tie.close
     (tie.spec
-    is-excluded-requires
+    (λ c κs. search needs)
     returns
-    list-true-requires
+    (λ c κs. search needs)
     returns-2
-    list-true-requires-2
+    (λ c κs. search needs)
     returns-3)

@@ -5,23 +5,8 @@ use Rattle.question.proofs.Low.{low-values, low-fails, low-forces}
 use Rattle.question.proofs.scan_low.Statement.{statement}
 use Rattle.question.proofs.scan_low.Tie as tie
 
-sub-scan : tie.Need-sub-scan
-sub-scan c = search needs
-
 scan-requires : tie.Need-scan-requires
 scan-requires c κs = low-values _ _ (c .before .pre)
-
-enum-told : tie.Need-enum-told
-enum-told c = search needs
-
-enum-known-s : tie.Need-enum-known-s
-enum-known-s c = search needs
-
-enum-known-s-2 : tie.Need-enum-known-s-2
-enum-known-s-2 c = search needs
-
-returns : tie.Need-returns
-returns c = search needs
 
 returns-2 : tie.Need-returns-2
 returns-2 c =
@@ -39,11 +24,11 @@ pub scan-low-spec : {M : Type 1} → statement M
 scan-low-spec =
     tie.close
     (tie.spec
-    sub-scan
+    (λ c. search needs)
     scan-requires
-    enum-told
-    enum-known-s
-    enum-known-s-2
-    returns
+    (λ c. search needs)
+    (λ c. search needs)
+    (λ c. search needs)
+    (λ c. search needs)
     returns-2
     returns-3)

@@ -12,12 +12,6 @@ use Rattle.question.proofs.top_open.Tie as tie
 sub-result : tie.Need-sub-result
 sub-result c = highest-end 63 (2 ^ 64 - 1 - c .args .settled) (omega arith) (omega arith) .0
 
-cast-result : tie.Need-cast-result
-cast-result c = search needs
-
-shl-result : tie.Need-shl-result
-shl-result c = search needs
-
 returns : tie.Need-returns
 returns c =
     let h = highest-end 63 (2 ^ 64 - 1 - c .args .settled) (omega arith) (omega arith) in
@@ -28,4 +22,4 @@ returns c =
     }
 
 pub top-open-spec : {M : Type 1} → statement M
-top-open-spec = tie.close (tie.spec sub-result cast-result shl-result returns)
+top-open-spec = tie.close (tie.spec sub-result (λ c. search needs) (λ c. search needs) returns)

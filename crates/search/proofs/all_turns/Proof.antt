@@ -19,72 +19,33 @@ abbrev μ-loop : tie.MeasureT-loop
 μ-loop n start step bad states₀ levels₀ path₀ allowance at₀ asked₀ states levels path at asked = allowance - asked
 
 loop-holds : tie.Need-loop-holds Inv-loop μ-loop
-loop-holds c =
-    let s = c .before .before .before .before .before .before in
-    (running-first (systemOf (s .args .n) (s .args .start .now) (s .args .step .now) (s .args .bad .now)) (length (s .args .states .now)) (s .args .allowance) _ _ _ (s .pre), refl, refl, refl)
+loop-holds c = (running-first _ _ _ _ _ _ (c .before .before .before .before .before .before .pre), refl, refl, refl)
 
 one-turn-requires : tie.Need-one-turn-requires Inv-loop μ-loop
 one-turn-requires c κs =
     let l = c .before .before .before .before .loop in
     rw (l .inv .1) (l .inv .0 .ready)
 
-add-asked : tie.Need-add-asked Inv-loop μ-loop
-add-asked c = search needs
-
-enum-known-t : tie.Need-enum-known-t Inv-loop μ-loop
-enum-known-t c = search needs
-
-loop-less : tie.Need-loop-less Inv-loop μ-loop
-loop-less c = search needs
-
 loop-again : tie.Need-loop-again Inv-loop μ-loop
 loop-again c =
-    let s = c .before .before .before .before .before .before .before .before .before .before .before .before .before .before .before .before .before .before .before .before .before in
-    let l = c .before .before .before .before .before .before .before .before .before .before .before .before .before .before .loop in
-    let o = c .before .before .before .before .before .before .before .before .before .one-turn in
-    let m = rw (c .before .t .given .1) at (rw (l .inv .1) at (o .ensures)) in (
-      running-go (systemOf (s .args .n) (s .args .start .now) (s .args .step .now) (s .args .bad .now)) (length (s .args .states .now)) (s .args .allowance) (l .at) (l .asked) (l .states) (l .levels) (l .path)
-          _ _ _ (l .inv .0) _ (c .before .before .before .before .before .before .before .before .before .before .before .before .before .loop-test .taken) m,
+    let turn = c .before .before .before .before .before .before .before .before .before in
+    let here = turn .before .before .before .before .before .loop in (
+      running-go (here .inv .0) (turn .before .before .before .before .loop-test .taken)
+          (rw (c .before .t .given .1) at (rw (here .inv .1) at (turn .one-turn .ensures))),
       search needs,
       search needs,
       search needs,
     )
 
-enum-known-t-2 : tie.Need-enum-known-t-2 Inv-loop μ-loop
-enum-known-t-2 c = search needs
-
-same-length : tie.Need-same-length Inv-loop μ-loop
-same-length c = search needs
-
-same-length-2 : tie.Need-same-length-2 Inv-loop μ-loop
-same-length-2 c = search needs
-
-same-length-3 : tie.Need-same-length-3 Inv-loop μ-loop
-same-length-3 c = search needs
-
 returns : tie.Need-returns Inv-loop μ-loop
 returns c =
-    let s = c .before .before .before .before .before .before .before .before .before .before .before .before .before .before .before .before .before .before .before .before .before in
-    let l = c .before .before .before .before .before .before .before .before .before .before .before .before .before .before .loop in
-    let o = c .before .before .before .before .before .before .before .before .before .one-turn in
-    let m = rw (c .before .t2 .given .1) at (rw (l .inv .1) at (o .ensures)) in
-    running-stop (systemOf (s .args .n) (s .args .start .now) (s .args .step .now) (s .args .bad .now)) (length (s .args .states .now)) (s .args .allowance) (l .at) (l .asked) (l .states) (l .levels) (l .path)
-    _ _ _ (l .inv .0) _ (c .before .before .before .before .before .before .before .before .before .before .before .before .before .loop-test .taken) m
-
-same-length-4 : tie.Need-same-length-4 Inv-loop μ-loop
-same-length-4 c = search needs
-
-same-length-5 : tie.Need-same-length-5 Inv-loop μ-loop
-same-length-5 c = search needs
-
-same-length-6 : tie.Need-same-length-6 Inv-loop μ-loop
-same-length-6 c = search needs
+    let turn = c .before .before .before .before .before .before .before .before .before in
+    let here = turn .before .before .before .before .before .loop in
+    running-stop (here .inv .0) (turn .before .before .before .before .loop-test .taken)
+    (rw (c .before .t2 .given .1) at (rw (here .inv .1) at (turn .one-turn .ensures)))
 
 returns-2 : tie.Need-returns-2 Inv-loop μ-loop
-returns-2 c =
-    let s = c .before .before .before .before .before .before .before .before in
-    let l = c .before .loop in
-    running-spent (systemOf (s .args .n) (s .args .start .now) (s .args .step .now) (s .args .bad .now)) (length (s .args .states .now)) (s .args .allowance) (l .at) (l .asked) _ _ _ (l .inv .0) (omega arith)
+returns-2 c = running-spent (c .before .loop .inv .0) (omega arith)
 
 pub all-turns-spec : {M : Type 1} → statement M
 all-turns-spec =
@@ -94,16 +55,16 @@ all-turns-spec =
     μ-loop
     loop-holds
     one-turn-requires
-    add-asked
-    enum-known-t
-    loop-less
+    (λ c. search needs)
+    (λ c. search needs)
+    (λ c. search needs)
     loop-again
-    enum-known-t-2
-    same-length
-    same-length-2
-    same-length-3
+    (λ c. search needs)
+    (λ c. search needs)
+    (λ c. search needs)
+    (λ c. search needs)
     returns
-    same-length-4
-    same-length-5
-    same-length-6
+    (λ c. search needs)
+    (λ c. search needs)
+    (λ c. search needs)
     returns-2)

@@ -6,17 +6,11 @@ use Rattle.search.proofs.bad_state.Statement.{statement}
 use Rattle.search.proofs.bad_state.Tie as tie
 
 slice-aggregate-bad-in : tie.Need-slice-aggregate-bad-in
-slice-aggregate-bad-in c = sym (length-take-le _ _ (c .before .before .before .before .before .pre .0))
+slice-aggregate-bad-in c = sym (length-take-le _ _ (search needs))
 
 slice-aggregate-bad-in-2 : tie.Need-slice-aggregate-bad-in-2
-slice-aggregate-bad-in-2 c = sym (length-take-le _ _ (c .before .before .before .before .before .before .pre .1))
-
-bad-in-requires : tie.Need-bad-in-requires
-bad-in-requires c κs = search needs
-
-returns : tie.Need-returns
-returns c = search needs
+slice-aggregate-bad-in-2 c = sym (length-take-le _ _ (search needs))
 
 pub bad-state-spec : {M : Type 1} → statement M
 bad-state-spec =
-    tie.close (tie.spec slice-aggregate-bad-in slice-aggregate-bad-in-2 bad-in-requires returns)
+    tie.close (tie.spec slice-aggregate-bad-in slice-aggregate-bad-in-2 (λ c κs. search needs) (λ c. search needs))

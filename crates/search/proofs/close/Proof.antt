@@ -12,23 +12,11 @@ use Rattle.search.proofs.Closing.{Closable, closes-safe, closes-unsafe,
 use Rattle.search.proofs.close.Statement.{statement}
 use Rattle.search.proofs.close.Tie as tie
 
-enum-known-end : tie.Need-enum-known-end
-enum-known-end c = search needs
-
 keep-requires : tie.Need-keep-requires
 keep-requires c κs =
     let s = c .before .before .before .before .before .before .before .before in
-    let b = rw (c .before .before .before .end .given .1) at (s .pre .0) in
-    (b, rw (s .pre .1) b)
-
-enum-known-end-2 : tie.Need-enum-known-end-2
-enum-known-end-2 c = search needs
-
-enum-told : tie.Need-enum-told
-enum-told c = search needs
-
-enum-told-2 : tie.Need-enum-told-2
-enum-told-2 c = search needs
+    let b = rw (c .before .before .before .end .given .1) at (s .pre .bounded) in
+    (b, rw (s .pre .same) b)
 
 -- what the end leaves to be finished
 closable : (m : tie.At-match-came)
@@ -41,11 +29,11 @@ closable m =
     ⊎-elim
     (λ w. let e = w .1 .given in
     let k = w .5 .ensures in
-    let b : e .0 .1 .0 ≤ length (s .args .states .now) = rw (e .1) at (s .pre .0) in
-    rw (w .8, w .9, w .10, w .11, w .12) (closes-safe _ _ _ _ _ _ _ (e .1) (k .0) (omega (arith, k .1, k .2, b)) (k .2)))
+    let b : e .0 .1 .0 ≤ length (s .args .states .now) = rw (e .1) at (s .pre .bounded) in
+    rw (w .8, w .9, w .10, w .11, w .12) (closes-safe _ _ _ _ _ _ _ (e .1) (k .0) (omega (arith, k .1, w .5 .kept .0, b)) (w .5 .kept .0)))
     (⊎-elim
     (λ w. let e = w .1 .given in
-    rw (w .3, w .4, w .5, w .6, w .7) (closes-unsafe _ _ _ _ (e .1) (rw (e .1) at (s .pre .3))))
+    rw (w .3, w .4, w .5, w .6, w .7) (closes-unsafe _ _ _ _ (e .1) (rw (e .1) at (s .pre .fits))))
     (⊎-elim
     (λ w. rw (w .2, w .3, w .4, w .5, w .6) (closes-neither _ _ _ _ _ (w .1 .given .1) refl))
     (λ w. rw (w .2, w .3, w .4, w .5, w .6) (closes-neither _ _ _ _ _ (w .1 .given .1) refl))))
@@ -61,12 +49,6 @@ same-length c =
     let k = closable (c .before .before .before .before .before .before .before .before .before .before) .same in
     search (needs, k)
 
-same-length-2 : tie.Need-same-length-2
-same-length-2 c = search needs
-
-same-length-3 : tie.Need-same-length-3
-same-length-3 c = search needs
-
 returns : tie.Need-returns
 returns c =
     let m = c .before .before .before .before .before .before .before .before .before .before in
@@ -77,13 +59,13 @@ pub close-spec : {M : Type 1} → statement M
 close-spec =
     tie.close
     (tie.spec
-    enum-known-end
+    (λ c. search needs)
     keep-requires
-    enum-known-end-2
-    enum-told
-    enum-told-2
+    (λ c. search needs)
+    (λ c. search needs)
+    (λ c. search needs)
     finish-requires
     same-length
-    same-length-2
-    same-length-3
+    (λ c. search needs)
+    (λ c. search needs)
     returns)

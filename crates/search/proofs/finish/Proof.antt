@@ -1,27 +1,9 @@
 -- `search::finish` meets its contract: each store is cleared behind its front, the levels have none. Assumes nothing.
 use mathlib.Core.Path.{_∙_}
 use borrow.Author.Needs.{needs}
-use Rattle.search.proofs.Fronts.{over-take, over-none}
+use Rattle.call.proofs.Over.{over-take, over-none}
 use Rattle.search.proofs.finish.Statement.{statement}
 use Rattle.search.proofs.finish.Tie as tie
-
-clear-behind-requires : tie.Need-clear-behind-requires
-clear-behind-requires c κs = search needs
-
-clear-levels-requires : tie.Need-clear-levels-requires
-clear-levels-requires c κs = search needs
-
-clear-behind-requires-2 : tie.Need-clear-behind-requires-2
-clear-behind-requires-2 c κs = search needs
-
-same-length : tie.Need-same-length
-same-length c = search needs
-
-same-length-2 : tie.Need-same-length-2
-same-length-2 c = search needs
-
-same-length-3 : tie.Need-same-length-3
-same-length-3 c = search needs
 
 returns : tie.Need-returns
 returns c =
@@ -38,10 +20,10 @@ pub finish-spec : {M : Type 1} → statement M
 finish-spec =
     tie.close
     (tie.spec
-    clear-behind-requires
-    clear-levels-requires
-    clear-behind-requires-2
-    same-length
-    same-length-2
-    same-length-3
+    (λ c κs. search needs)
+    (λ c κs. search needs)
+    (λ c κs. search needs)
+    (λ c. search needs)
+    (λ c. search needs)
+    (λ c. search needs)
     returns)

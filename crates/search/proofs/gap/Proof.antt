@@ -4,13 +4,12 @@
 use Prim.Native.Nat.{_≤_, _-_}
 use native.Mathlib.Omega.{arith}
 use borrow.Author.Needs.{needs}
-use Rattle.search.specs.Lent.{Absent}
-use Rattle.search.proofs.Levels.{absent-none, absent-more, AllTaken, taken-none, taken-more}
+use Rattle.search.proofs.Walks.{Passed, passed-none, passed-more, AllTaken, taken-none, taken-more}
 use Rattle.search.proofs.gap.Statement.{statement}
 use Rattle.search.proofs.gap.Tie as tie
 
 abbrev Inv-loop : tie.InvT-loop
-Inv-loop levels count top i j₀ j = (j ≤ count) × Absent levels 0 j i
+Inv-loop levels count top i j₀ j = Passed levels 0 count i j
 
 abbrev μ-loop : tie.MeasureT-loop
 μ-loop levels count top i j₀ j = count - j
@@ -25,30 +24,10 @@ levels-holds : tie.Need-levels-holds Inv-loop μ-loop Inv-levels μ-levels
 levels-holds c = (search needs, search needs, taken-none (c .args .levels .now) _)
 
 loop-holds : tie.Need-loop-holds Inv-loop μ-loop Inv-levels μ-levels
-loop-holds c = (search needs, absent-none (c .before .before .args .levels .now) _ _)
-
-mul-if3 : tie.Need-mul-if3 Inv-loop μ-loop Inv-levels μ-levels
-mul-if3 c = search needs
-
-shared-slice-read-if3 : tie.Need-shared-slice-read-if3 Inv-loop μ-loop Inv-levels μ-levels
-shared-slice-read-if3 c = search needs
-
-add-j : tie.Need-add-j Inv-loop μ-loop Inv-levels μ-levels
-add-j c = search needs
-
-loop-less : tie.Need-loop-less Inv-loop μ-loop Inv-levels μ-levels
-loop-less c = search needs
+loop-holds c = passed-none (c .before .before .args .levels .now) _ _ _ (omega arith)
 
 loop-again : tie.Need-loop-again Inv-loop μ-loop Inv-levels μ-levels
-loop-again c =
-    let at-loop = c .before .before .before in
-    (search needs, absent-more (at-loop .before .before .before .args .levels .now) _ _ _ (at-loop .loop .inv .1) (c .if3 .left))
-
-add-i : tie.Need-add-i Inv-loop μ-loop Inv-levels μ-levels
-add-i c = search needs
-
-levels-less : tie.Need-levels-less Inv-loop μ-loop Inv-levels μ-levels
-levels-less c = search needs
+loop-again c = passed-more (c .before .before .before .loop .inv) (omega arith) (c .if3 .left)
 
 levels-again : tie.Need-levels-again Inv-loop μ-loop Inv-levels μ-levels
 levels-again c =
@@ -75,7 +54,7 @@ returns-2 c =
       from-one = omega arith;
       to-top = omega arith;
       taken = at-loop .before .before .levels .inv .2;
-      free = λ l. rw (c .if2 .taken) at (at-loop .loop .inv .1);
+      free = λ l. rw (c .if2 .taken) at (at-loop .loop .inv .absent);
     }
 
 pub gap-spec : {M : Type 1} → statement M
@@ -88,13 +67,13 @@ gap-spec =
     μ-levels
     levels-holds
     loop-holds
-    mul-if3
-    shared-slice-read-if3
-    add-j
-    loop-less
+    (λ c. search needs)
+    (λ c. search needs)
+    (λ c. search needs)
+    (λ c. search needs)
     loop-again
-    add-i
-    levels-less
+    (λ c. search needs)
+    (λ c. search needs)
     levels-again
     returns
     returns-2)

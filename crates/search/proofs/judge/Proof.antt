@@ -6,19 +6,11 @@ use Rattle.search.proofs.Rounds.{judge-safe, judge-again}
 use Rattle.search.proofs.judge.Statement.{statement}
 use Rattle.search.proofs.judge.Tie as tie
 
-gap-requires : tie.Need-gap-requires
-gap-requires c κs = search needs
-
 returns : tie.Need-returns
-returns c =
-    let s = c .before .before .before in
-    let args = s .args in
-    (λ ss path. sym (judge-safe (args .top) (args .count) (c .before .gap .result) ss (args .levels .now) (c .before .gap .ensures) (omega arith)), s .pre .0)
+returns c = (λ ss path. sym (judge-safe _ _ _ _ _ (c .before .gap .ensures) (omega arith)), search needs)
 
 returns-2 : tie.Need-returns-2
-returns-2 c =
-    let args = c .before .before .before .args in
-    (λ ss path. sym (judge-again (args .top) (args .count) (c .before .gap .result) ss (args .levels .now) (c .before .gap .ensures) (omega arith) (omega arith)), tt)
+returns-2 c = (λ ss path. sym (judge-again _ _ _ _ _ (c .before .gap .ensures) (omega arith) (omega arith)), tt)
 
 pub judge-spec : {M : Type 1} → statement M
-judge-spec = tie.close (tie.spec gap-requires returns returns-2)
+judge-spec = tie.close (tie.spec (λ c κs. search needs) returns returns-2)

@@ -17,33 +17,6 @@ abbrev μ-loop : tie.MeasureT-loop
 loop-holds : tie.Need-loop-holds Inv-loop μ-loop
 loop-holds c = fronted-none _ _ _ _
 
-mul-if1 : tie.Need-mul-if1 Inv-loop μ-loop
-mul-if1 c = search needs
-
-shared-slice-read-if1 : tie.Need-shared-slice-read-if1 Inv-loop μ-loop
-shared-slice-read-if1 c = search needs
-
-mul-states : tie.Need-mul-states Inv-loop μ-loop
-mul-states c = search needs
-
-slice-read-states : tie.Need-slice-read-states Inv-loop μ-loop
-slice-read-states c = search needs
-
-mul-states-2 : tie.Need-mul-states-2 Inv-loop μ-loop
-mul-states-2 c = search needs
-
-slice-write-states : tie.Need-slice-write-states Inv-loop μ-loop
-slice-write-states c = search needs
-
-add-kept : tie.Need-add-kept Inv-loop μ-loop
-add-kept c = search needs
-
-add-j : tie.Need-add-j Inv-loop μ-loop
-add-j c = search needs
-
-loop-less : tie.Need-loop-less Inv-loop μ-loop
-loop-less c = search needs
-
 loop-again : tie.Need-loop-again Inv-loop μ-loop
 loop-again c =
     let l = c .before .before .before .loop in
@@ -61,7 +34,6 @@ returns c =
     let l = c .before .loop in (
       fronted-all _ _ _ _ _ _ _ (l .inv) (c .loop-test .left),
       omega (arith, l .inv),
-      l .inv .same,
     )
 
 pub keep-spec : {M : Type 1} → statement M
@@ -71,15 +43,15 @@ keep-spec =
     Inv-loop
     μ-loop
     loop-holds
-    mul-if1
-    shared-slice-read-if1
-    mul-states
-    slice-read-states
-    mul-states-2
-    slice-write-states
-    add-kept
-    add-j
-    loop-less
+    (λ c. search needs)
+    (λ c. search needs)
+    (λ c. search needs)
+    (λ c. search needs)
+    (λ c. search needs)
+    (λ c. search needs)
+    (λ c. search needs)
+    (λ c. search needs)
+    (λ c. search needs)
     loop-again
     same-length
     returns)

@@ -11,33 +11,6 @@ use Rattle.search.proofs.Raising.{entry-level, raised-tidy, raise-not, 
 use Rattle.search.proofs.raise.Statement.{statement}
 use Rattle.search.proofs.raise.Tie as tie
 
-mul-s : tie.Need-mul-s
-mul-s c = search needs
-
-shared-slice-read-s : tie.Need-shared-slice-read-s
-shared-slice-read-s c = search needs
-
-step-state-requires : tie.Need-step-state-requires
-step-state-requires c κs = search needs
-
-enum-told : tie.Need-enum-told
-enum-told c = search needs
-
-enum-told-2 : tie.Need-enum-told-2
-enum-told-2 c = search needs
-
-add-levels : tie.Need-add-levels
-add-levels c = search needs
-
-mul-levels : tie.Need-mul-levels
-mul-levels c = search needs
-
-slice-write-levels : tie.Need-slice-write-levels
-slice-write-levels c = search needs
-
-add-round : tie.Need-add-round
-add-round c = search needs
-
 -- the level store keeps its length
 same : (m : tie.At-match-came)
     → length (m .match .levels) ≡ length (m .before .before .before .before .before .before .before .before .args .levels .now)
@@ -48,10 +21,7 @@ same m =
 round-requires : tie.Need-round-requires
 round-requires c κs =
     let s = c .before .before .before .before .before .before .before .before .before in
-    let a = s .args in
-    let asks = s .pre .0 in
-    let one = entry-level (a .count) (a .i) (a .j) (a .states .now) (a .levels .now) (asks .tidy) (s .pre .1) (s .pre .2) in
-    (rw (same (c .before)) (asks .levels), one, omega arith, omega arith)
+    (rw (same (c .before)) (s .pre .0 .levels), entry-level _ _ _ _ _ (s .pre .0 .tidy) (s .pre .1) (s .pre .2), omega arith, omega arith)
 
 same-length : tie.Need-same-length
 same-length c = same (c .before .before)
@@ -64,31 +34,27 @@ returns c =
     let o = m .before .step-state in (
       λ bad path room. let y = systemOf (a .n) (a .start .now) (a .step .now) bad in
           ⊎-elim
-          (λ w. c .round .ensures .0 (a .states .now) path (rw (w .2) (s .pre .0 .tidy))
-          ∙ rw (w .2) (raise-not y (a .top) (a .count) (a .i) (a .j) (a .states .now) (a .levels .now) (s .pre .0) (s .pre .1) (s .pre .3) room
-          (w .1 .given .0 .0) (rw (w .1 .given .1) at (o .ensures))))
-          (λ w. c .round .ensures .0 (a .states .now) path
-          (rw (w .2) (raised-tidy y (a .top) (a .count) (a .i) (a .j) (a .states .now) (a .levels .now) (s .pre .0) (s .pre .1) (s .pre .3)))
-          ∙ rw (w .2) (raise-up y (a .top) (a .count) (a .i) (a .j) (a .states .now) (a .levels .now) (s .pre .0) (s .pre .1) (s .pre .3) room
-          (rw (w .1 .given .1) at (o .ensures))))
+          (λ w. c .round .ensures .0 _ path (rw (w .2) (s .pre .0 .tidy))
+          ∙ rw (w .2) (raise-not y _ _ _ _ _ _ (s .pre .0) (s .pre .1) (s .pre .3) room _ (rw (w .1 .given .1) at (o .ensures))))
+          (λ w. c .round .ensures .0 _ path (rw (w .2) (raised-tidy y _ _ _ _ _ _ (s .pre .0) (s .pre .1) (s .pre .3)))
+          ∙ rw (w .2) (raise-up y _ _ _ _ _ _ (s .pre .0) (s .pre .1) (s .pre .3) room (rw (w .1 .given .1) at (o .ensures))))
           (m .match .came),
       rw (same m) at (c .round .ensures .1),
-      same m,
     )
 
 pub raise-spec : {M : Type 1} → statement M
 raise-spec =
     tie.close
     (tie.spec
-    mul-s
-    shared-slice-read-s
-    step-state-requires
-    enum-told
-    enum-told-2
-    add-levels
-    mul-levels
-    slice-write-levels
-    add-round
+    (λ c. search needs)
+    (λ c. search needs)
+    (λ c κs. search needs)
+    (λ c. search needs)
+    (λ c. search needs)
+    (λ c. search needs)
+    (λ c. search needs)
+    (λ c. search needs)
+    (λ c. search needs)
     round-requires
     same-length
     returns)

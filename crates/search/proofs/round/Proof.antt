@@ -23,24 +23,13 @@ abbrev μ-loop : tie.MeasureT-loop
 loop-holds : tie.Need-loop-holds Inv-loop μ-loop
 loop-holds c = (search needs, search needs, search needs, λ ss w. refl)
 
-next-at-requires : tie.Need-next-at-requires Inv-loop μ-loop
-next-at-requires c κs = search needs
-
 returns : tie.Need-returns Inv-loop μ-loop
 returns c =
-    let here = c .before .before .before in
-    let args = here .before .before .args in (
+    let here = c .before .before .before in (
       λ ss path w. sym (here .loop .inv .3 ss w
-          ∙ round-raises (args .top) (args .count) ss (args .levels .now) w (here .loop .level) (here .loop .from) (c .before .next-at .result)
-          (omega arith) (omega arith) (omega arith) (c .before .next-at .ensures)),
+          ∙ round-raises _ _ _ _ w _ _ _ (omega arith) (omega arith) (omega arith) (c .before .next-at .ensures)),
       omega arith,
     )
-
-add-level : tie.Need-add-level Inv-loop μ-loop
-add-level c = search needs
-
-loop-less : tie.Need-loop-less Inv-loop μ-loop
-loop-less c = search needs
 
 loop-again : tie.Need-loop-again Inv-loop μ-loop
 loop-again c =
@@ -53,20 +42,13 @@ loop-again c =
       search needs,
       search needs,
       λ ss w. here .loop .inv .3 ss w
-          ∙ round-on (args .top) (args .count) ss (args .levels .now) w (here .loop .level) (here .loop .from) (omega arith) (omega arith)
-          (omega arith) absent,
+          ∙ round-on _ _ _ _ w _ _ (omega arith) (omega arith) (omega arith) absent,
     )
-
-judge-requires : tie.Need-judge-requires Inv-loop μ-loop
-judge-requires c κs = search needs
 
 returns-2 : tie.Need-returns-2 Inv-loop μ-loop
 returns-2 c =
-    let here = c .before .before in
-    let args = here .before .before .args in (
-      λ ss path w. c .judge .ensures .0 ss path
-          ∙ sym (here .loop .inv .3 ss w
-          ∙ round-judged (args .top) (args .count) ss (args .levels .now) (here .loop .level) (here .loop .from) (omega arith)),
+    let here = c .before .before in (
+      λ ss path w. c .judge .ensures .0 ss path ∙ sym (here .loop .inv .3 ss w ∙ round-judged _ _ _ _ _ _ (omega arith)),
       c .judge .ensures .1,
     )
 
@@ -77,10 +59,10 @@ round-spec =
     Inv-loop
     μ-loop
     loop-holds
-    next-at-requires
+    (λ c κs. search needs)
     returns
-    add-level
-    loop-less
+    (λ c. search needs)
+    (λ c. search needs)
     loop-again
-    judge-requires
+    (λ c κs. search needs)
     returns-2)

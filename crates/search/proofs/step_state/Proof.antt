@@ -6,17 +6,11 @@ use Rattle.search.proofs.step_state.Statement.{statement}
 use Rattle.search.proofs.step_state.Tie as tie
 
 slice-aggregate-step-in : tie.Need-slice-aggregate-step-in
-slice-aggregate-step-in c = sym (length-take-le _ _ (c .before .before .before .before .before .pre .0))
+slice-aggregate-step-in c = sym (length-take-le _ _ (search needs))
 
 slice-aggregate-step-in-2 : tie.Need-slice-aggregate-step-in-2
-slice-aggregate-step-in-2 c = sym (length-take-le _ _ (c .before .before .before .before .before .before .pre .1))
-
-step-in-requires : tie.Need-step-in-requires
-step-in-requires c κs = search needs
-
-returns : tie.Need-returns
-returns c = search needs
+slice-aggregate-step-in-2 c = sym (length-take-le _ _ (search needs))
 
 pub step-state-spec : {M : Type 1} → statement M
 step-state-spec =
-    tie.close (tie.spec slice-aggregate-step-in slice-aggregate-step-in-2 step-in-requires returns)
+    tie.close (tie.spec slice-aggregate-step-in slice-aggregate-step-in-2 (λ c κs. search needs) (λ c. search needs))

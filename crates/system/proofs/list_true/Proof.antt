@@ -17,41 +17,11 @@ Inv-loop list word i₀ i = (i ≤ length list) × (listTrue list word ≡ listT
 abbrev μ-loop : tie.MeasureT-loop
 μ-loop list word i₀ i = length list - i
 
-loop-holds : tie.Need-loop-holds Inv-loop μ-loop
-loop-holds c = search needs
-
-add-loop : tie.Need-add-loop Inv-loop μ-loop
-add-loop c = search needs
-
-mul-clause-true : tie.Need-mul-clause-true Inv-loop μ-loop
-mul-clause-true c = search needs
-
-shared-slice-read-clause-true : tie.Need-shared-slice-read-clause-true Inv-loop μ-loop
-shared-slice-read-clause-true c = search needs
-
-add-clause-true : tie.Need-add-clause-true Inv-loop μ-loop
-add-clause-true c = search needs
-
-mul-clause-true-2 : tie.Need-mul-clause-true-2 Inv-loop μ-loop
-mul-clause-true-2 c = search needs
-
-shared-slice-read-clause-true-2 : tie.Need-shared-slice-read-clause-true-2 Inv-loop μ-loop
-shared-slice-read-clause-true-2 c = search needs
-
-clause-true-requires : tie.Need-clause-true-requires Inv-loop μ-loop
-clause-true-requires c κs = search needs
-
 returns : tie.Need-returns Inv-loop μ-loop
 returns c =
     let in-loop = c .before .before .before .before in
     sym (in-loop .before .loop .inv .1
     ∙ list-stops _ _ _ (in-loop .loop-test .taken) (sym (c .before .clause-true .ensures) ∙ not-true _ (c .if1 .taken)))
-
-add-i : tie.Need-add-i Inv-loop μ-loop
-add-i c = search needs
-
-loop-less : tie.Need-loop-less Inv-loop μ-loop
-loop-less c = search needs
 
 loop-again : tie.Need-loop-again Inv-loop μ-loop
 loop-again c =
@@ -70,16 +40,16 @@ list-true-spec =
     (tie.spec
     Inv-loop
     μ-loop
-    loop-holds
-    add-loop
-    mul-clause-true
-    shared-slice-read-clause-true
-    add-clause-true
-    mul-clause-true-2
-    shared-slice-read-clause-true-2
-    clause-true-requires
+    (λ c. search needs)
+    (λ c. search needs)
+    (λ c. search needs)
+    (λ c. search needs)
+    (λ c. search needs)
+    (λ c. search needs)
+    (λ c. search needs)
+    (λ c κs. search needs)
     returns
-    add-i
-    loop-less
+    (λ c. search needs)
+    (λ c. search needs)
     loop-again
     returns-2)

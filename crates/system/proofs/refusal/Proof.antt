@@ -6,14 +6,8 @@ use Rattle.system.proofs.Refusals.{size-right, refusal-first}
 use Rattle.system.proofs.refusal.Statement.{statement}
 use Rattle.system.proofs.refusal.Tie as tie
 
-wrong-size-requires : tie.Need-wrong-size-requires
-wrong-size-requires c κs = search needs
-
 returns : tie.Need-returns
 returns c = sym (refusal-first _ (sym (c .before .wrong-size .ensures) ∙ c .if1 .taken) refl refl)
-
-wrong-counts-requires : tie.Need-wrong-counts-requires
-wrong-counts-requires c κs = search needs
 
 returns-2 : tie.Need-returns-2
 returns-2 c =
@@ -50,9 +44,9 @@ pub refusal-spec : {M : Type 1} → statement M
 refusal-spec =
     tie.close
     (tie.spec
-    wrong-size-requires
+    (λ c κs. search needs)
     returns
-    wrong-counts-requires
+    (λ c κs. search needs)
     returns-2
     wrong-bits-requires
     returns-3

@@ -20,12 +20,6 @@ Inv-loop low high list low-end high-end i₀ i =
 abbrev μ-loop : tie.MeasureT-loop
 μ-loop low high list low-end high-end i₀ i = length list - i
 
-power-requires : tie.Need-power-requires Inv-loop μ-loop
-power-requires c κs = search needs
-
-power-requires-2 : tie.Need-power-requires-2 Inv-loop μ-loop
-power-requires-2 c κs = search needs
-
 loop-holds : tie.Need-loop-holds Inv-loop μ-loop
 loop-holds c = (
   search needs,
@@ -34,23 +28,11 @@ loop-holds c = (
   refl,
 )
 
-mul-x : tie.Need-mul-x Inv-loop μ-loop
-mul-x c = search needs
-
-shared-slice-read-x : tie.Need-shared-slice-read-x Inv-loop μ-loop
-shared-slice-read-x c = search needs
-
 returns : tie.Need-returns Inv-loop μ-loop
 returns c =
     sym (c .before .before .before .loop .inv .3
     ∙ bit-stops _ _ _ _ (c .before .before .loop-test .taken)
     (⊎-elim (λ t. inl (omega arith)) (λ t. inr (omega (arith, leb-true))) (c .if1 .came)))
-
-add-i : tie.Need-add-i Inv-loop μ-loop
-add-i c = search needs
-
-loop-less : tie.Need-loop-less Inv-loop μ-loop
-loop-less c = search needs
 
 loop-again : tie.Need-loop-again Inv-loop μ-loop
 loop-again c =
@@ -71,13 +53,13 @@ wrong-bit-spec =
     (tie.spec
     Inv-loop
     μ-loop
-    power-requires
-    power-requires-2
+    (λ c κs. search needs)
+    (λ c κs. search needs)
     loop-holds
-    mul-x
-    shared-slice-read-x
+    (λ c. search needs)
+    (λ c. search needs)
     returns
-    add-i
-    loop-less
+    (λ c. search needs)
+    (λ c. search needs)
     loop-again
     returns-2)

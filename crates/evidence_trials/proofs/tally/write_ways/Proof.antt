@@ -1,0 +1,33 @@
+-- `evidence_trials::tally::write_ways` is safe and ends. The measure is how many lines are left. Assumes nothing.
+use Prim.Native.Nat.{_-_}
+use borrow.Author.Needs.{needs}
+use Rattle.evidence_trials.proofs.tally.write_ways.Statement.{statement}
+use Rattle.evidence_trials.proofs.tally.write_ways.Tie as tie
+
+abbrev Inv-loop : tie.InvT-loop
+Inv-loop tally j₀ t4 t5 j = Unit {0}
+
+abbrev μ-loop : tie.MeasureT-loop
+μ-loop tally j₀ t4 t5 j = 24 - j
+
+pub write-ways-spec : {M : Type 1} → statement M
+write-ways-spec =
+    tie.close
+    (tie.spec
+    Inv-loop
+    μ-loop
+    (λ c. search needs)
+    (λ c. search needs)
+    (λ c. search needs)
+    (λ c. search needs)
+    (λ c. search needs)
+    (λ c. search needs)
+    (λ c. search needs)
+    (λ c. search needs)
+    (λ c. search needs)
+    (λ c. search needs)
+    (λ c. search needs)
+    (λ c. search needs)
+    (λ c. search needs)
+    (λ c. search needs)
+    (λ c. search needs))

@@ -1,0 +1,80 @@
+// What a check says, and whether that is right.
+
+// The four answers.
+pub const YES: u64 = 0;
+
+pub const NO: u64 = 1;
+
+pub const STATE_REFUSED: u64 = 2;
+
+pub const REFUSED: u64 = 3;
+
+// The check of paths, or of excluded states.
+pub fn check(
+    path: bool,
+    n: u32,
+    start: &[u64],
+    step: &[u64],
+    bad: &[u64],
+    list: &[u64],
+) -> evidence::Checked {
+    if path {
+        evidence::check_path(n, start, step, bad, list)
+    } else {
+        evidence::check_excluded(n, start, step, bad, list)
+    }
+}
+
+// The number that a check returns.
+pub fn number(said: evidence::Checked) -> u64 {
+    match said {
+        evidence::Checked::Yes(_) => 0,
+        evidence::Checked::No(_) => 0,
+        evidence::Checked::Refused(number) => number as u64,
+    }
+}
+
+// Yes, no, or a refusal.
+pub fn answer(said: evidence::Checked) -> u64 {
+    match said {
+        evidence::Checked::Yes(_) => YES,
+        evidence::Checked::No(_) => NO,
+        evidence::Checked::Refused(number) => if number == 7 { STATE_REFUSED } else { REFUSED },
+    }
+}
+
+pub fn questions(said: evidence::Checked) -> usize {
+    match said {
+        evidence::Checked::Yes(asked) => asked,
+        evidence::Checked::No(asked) => asked,
+        evidence::Checked::Refused(_) => 0,
+    }
+}
+
+// Whether the count of questions is right. A path takes none. Of k excluded states a yes takes k + 1, a no at most as many.
+pub fn questions_right(path: bool, answer: u64, k: usize, asked: usize) -> bool {
+    if asked == 0 {
+        return path || answer != YES;
+    }
+    if path {
+        return false;
+    }
+    if answer == YES {
+        asked - 1 == k
+    } else {
+        asked - 1 <= k
+    }
+}
+
+// What the check must say, by the walk.
+pub fn wanted(path: bool, n: u32, table: &[bool], list: &[u64]) -> u64 {
+    if !small_systems::are_states(n, list) {
+        return STATE_REFUSED;
+    }
+    let right = if path {
+        small_systems::is_path(n, table, list)
+    } else {
+        small_systems::excludes(n, table, list)
+    };
+    if right { YES } else { NO }
+}

@@ -1,0 +1,253 @@
+// What the walk knows of a system and what a call did, counted and written.
+
+// What a call says.
+pub const SAFE: u64 = 0;
+
+pub const UNSAFE: u64 = 1;
+
+pub const NEITHER: u64 = 2;
+
+// Where the tally counts: systems by their bits, less 1, and by the kind of their steps; systems with something special; what was said; sums; how
+// the calls ended; a digest of all calls in turn; and what is not as the walk says or as it must be.
+const TALLY: usize = 45;
+
+const KINDS: usize = 10;
+
+const NO_START: usize = 18;
+
+const NO_BAD: usize = 19;
+
+const ALL_BAD: usize = 20;
+
+const NOT_REACHED: usize = 21;
+
+const DEAD_ENDS: usize = 22;
+
+const SAID: usize = 23;
+
+const LENGTHS: usize = 25;
+
+const DOOMED: usize = 27;
+
+const QUESTIONS: usize = 28;
+
+pub const ROOMS: usize = 29;
+
+const LONGEST: usize = 30;
+
+const CALLS: usize = 31;
+
+const ANSWERED: usize = 32;
+
+const SPENT: usize = 33;
+
+const NO_ROOM: usize = 34;
+
+const DIGEST: usize = 35;
+
+const GAVE_UP: usize = 36;
+
+const VERDICT: usize = 37;
+
+const SHORTEST: usize = 38;
+
+const TOO_MANY: usize = 39;
+
+pub const CHECK: usize = 40;
+
+pub const WALK: usize = 41;
+
+pub const NOT_ZERO: usize = 42;
+
+const OTHER: usize = 43;
+
+const NUMBER: usize = 44;
+
+// What the walk knows of a system: how many states are no start state and lead to a bad one, the fewest steps from a start state to a bad one, and
+// how many states are start states, bad, and without a next state.
+pub struct Known {
+    pub m: usize,
+    pub steps: u32,
+    pub starts: usize,
+    pub bads: usize,
+    pub ends: usize,
+}
+
+// What a call did.
+pub struct Seen {
+    pub number: u32,
+    pub said: u64,
+    pub length: usize,
+    pub questions: u32,
+    pub digest: u64,
+}
+
+pub fn count(tally: &mut [u64; 45], at: usize, more: u64) {
+    let j = at % TALLY;
+    tally[j] = std::num::wrapping_add_u64(tally[j], more);
+}
+
+// One, if it is so.
+pub fn one(so: bool) -> u64 {
+    if so { 1 } else { 0 }
+}
+
+// 3(m+2)(m+2).
+pub fn most(m: usize) -> u32 {
+    let side = (m % 1025 + 2) as u32;
+    3 * side * side
+}
+
+// What is special about a system.
+pub fn enter_system(tally: &mut [u64; 45], n: u32, kind: u64, k: Known) {
+    count(tally, std::num::wrapping_sub_u32(n, 1) as usize, 1);
+    count(tally, KINDS + (kind % 8) as usize, 1);
+    count(tally, NO_START, one(k.starts == 0));
+    count(tally, NO_BAD, one(k.bads == 0));
+    count(tally, ALL_BAD, one(k.bads == small_systems::size(n)));
+    count(
+        tally,
+        NOT_REACHED,
+        one((k.bads != 0) & (k.steps == small_systems::NEVER)),
+    );
+    count(tally, DEAD_ENDS, one(k.ends != 0));
+    count(tally, DOOMED, k.m as u64);
+}
+
+// The first call of a system, with room m and allowance 3(m+2)(m+2), against the walk.
+fn enter_first(tally: &mut [u64; 45], k: Known, seen: Seen) {
+    let reached = k.steps != small_systems::NEVER;
+    let wanted = std::num::wrapping_add_u32(k.steps, 1) as usize;
+    let unsafe_said = seen.said == UNSAFE;
+    let at = (seen.said % 2) as usize;
+    count(tally, SAID + at, 1);
+    count(tally, LENGTHS + at, seen.length as u64);
+    count(tally, QUESTIONS, seen.questions as u64);
+    count(tally, ANSWERED, one(seen.number == 0));
+    count(tally, GAVE_UP, one(seen.number != 0));
+    count(tally, VERDICT, one(seen.said != one(reached)));
+    count(tally, SHORTEST, one(unsafe_said & (seen.length != wanted)));
+    count(tally, TOO_MANY, one(most(k.m) < seen.questions));
+    if unsafe_said & (tally[LONGEST] < seen.length as u64) {
+        tally[LONGEST] = seen.length as u64;
+    }
+}
+
+// Whether two calls came to the same.
+fn same(a: Seen, b: Seen) -> bool {
+    (a.number == b.number)
+        & (a.said == b.said)
+        & (a.length == b.length)
+        & (a.questions == b.questions)
+        & (a.digest == b.digest)
+}
+
+// A later call of the system. With the allowance that was used it is the first again, and with one less it ends with 5. With less room it is the
+// first again, or ends with 6.
+fn enter_later(tally: &mut [u64; 45], turn: u64, first: Seen, seen: Seen) {
+    if turn == 1 || seen.number == 0 {
+        count(tally, OTHER, one(!same(first, seen)));
+        return;
+    }
+    let spent = (seen.number == 5)
+        & (std::num::wrapping_sub_u32(first.questions, seen.questions) == 1);
+    let right = if turn == 2 { spent } else { seen.number == 6 };
+    count(tally, NUMBER, one(!right | (seen.said != NEITHER)));
+}
+
+// What each call adds.
+fn enter_call(tally: &mut [u64; 45], seen: Seen) {
+    count(tally, CALLS, 1);
+    count(tally, SPENT, one(seen.number == 5));
+    count(tally, NO_ROOM, one(seen.number == 6));
+    tally[DIGEST] = small_systems::next(tally[DIGEST] ^ seen.digest);
+}
+
+// A turn's call entered.
+pub fn enter(tally: &mut [u64; 45], k: Known, turn: u64, first: Seen, seen: Seen) {
+    enter_call(tally, seen);
+    if turn == 0 {
+        enter_first(tally, k, seen);
+    } else {
+        enter_later(tally, turn, first, seen);
+    }
+}
+
+// Names of equal width, each with its number behind it.
+fn lines(tally: &[u64; 45], first: usize, names: &[u8]) {
+    let mut j = first;
+    let mut at = 0;
+    while at < names.len() {
+        let end = std::num::wrapping_add_usize(at, 25);
+        if at <= end {
+            if end <= names.len() {
+                io::write_all(1, &names[at..end]);
+                io::print_decimal(1, tally[j % TALLY]);
+                io::write_all(1, b"\n");
+            }
+        }
+        at += 25;
+        j = std::num::wrapping_add_usize(j, 1);
+    }
+}
+
+fn write_systems(tally: &[u64; 45]) {
+    lines(
+        tally,
+        0,
+        b"systems of 1 bit         systems of 2 bits        systems of 3 bits        systems of 4 bits        systems of 5 bits        ",
+    );
+    lines(
+        tally,
+        5,
+        b"systems of 6 bits        systems of 7 bits        systems of 8 bits        systems of 9 bits        systems of 10 bits       ",
+    );
+    lines(
+        tally,
+        10,
+        b"no steps                 all steps                some steps               steps by short clauses   ",
+    );
+    lines(
+        tally,
+        14,
+        b"steps to the next        to the next and itself   steps down               a counter's steps        ",
+    );
+    lines(
+        tally,
+        18,
+        b"no start state           no bad state             all states bad           bad states not reached   states without a next    ",
+    );
+}
+
+fn write_calls(tally: &[u64; 45]) {
+    lines(
+        tally,
+        23,
+        b"safe                     unsafe                   states excluded          states in paths          sum of m                 ",
+    );
+    lines(
+        tally,
+        28,
+        b"sum of questions         sum of rooms used        longest path             calls                    ",
+    );
+    lines(
+        tally,
+        32,
+        b"room m sufficed          calls that gave 5        calls that gave 6        digest of all calls      ",
+    );
+    lines(
+        tally,
+        36,
+        b"gave up with room m      verdict differs          path length differs      too many questions       evidence check refuses   ",
+    );
+    lines(
+        tally,
+        41,
+        b"walk refuses             store not zero           other answer             number not 5 or 6        ",
+    );
+}
+
+pub fn write(tally: &[u64; 45]) {
+    write_systems(tally);
+    write_calls(tally);
+}
