@@ -1,10 +1,15 @@
 #!/usr/bin/env python3
 """Writes the texts of the trials and the answers that document 01 gives them: `stdin` and `stdout` beside this file.
 
-The answers come from a reader of lines, a table of all states and steps, and the search as document 01 tells it, written for this purpose.
+The answers come from a reader of lines, the states of which a list is true, and the search as document 01 tells it.
 """
 import os
 import random
+import sys
+
+sys.dont_write_bytecode = True
+sys.path.insert(0, os.path.join(os.path.dirname(os.path.abspath(__file__)), "../small_systems"))
+from search import Search
 
 ROOM, ALLOWANCE = 1024, 1000000
 LENGTHS = {0x00: 3, 0x01: 10, 0x02: 18, 0x03: 10, 0x0F: 4}
@@ -54,67 +59,15 @@ def true(clauses, word):
     return all(ones & word or zeros & ~word for ones, zeros in clauses)
 
 
-class GivenUp(Exception):
-    pass
+class Before(dict):
+    """The states that step to a state, looked for among all when they are asked for."""
 
+    def __init__(self, n, step):
+        self.states, self.step = range(1 << n), step
 
-class Search:
-    """Steps 1 to 5, over all states."""
-
-    def __init__(self, n, lists):
-        self.states, self.step = range(1 << n), lists[2]
-        self.start = {s for s in self.states if true(lists[1], s)}
-        self.bad = [s for s in self.states if true(lists[3], s)]
-        self.before, self.level, self.asked = {}, {}, 0
-
-    def steps_to(self, t):
-        if t not in self.before:
-            self.before[t] = [s for s in self.states if true(self.step, s | t << 32)]
-        return self.before[t]
-
-    def ask(self, states, i):
-        if self.asked == ALLOWANCE:
-            raise GivenUp(5)
-        self.asked += 1
-        inside = (s for s in states if (s in self.start if i == 0 else self.level.get(s, 0) < i))
-        return next(inside, None)
-
-    def settle(self, duties):
-        """The path, if there is one."""
-        while duties:
-            s, k = duties[-1]
-            t = self.ask(self.steps_to(s), k - 1)
-            if t is not None and k == 1:
-                return [t] + [d for d, _ in reversed(duties)]
-            if t is not None:
-                duties.append((t, k - 1))
-                continue
-            if s not in self.level and len(self.level) == ROOM:
-                raise GivenUp(6)
-            self.level[s] = k
-            duties.pop()
-        return None
-
-    def run(self):
-        s = self.ask(self.bad, 0)
-        if s is not None:
-            return 0x90, [s]
-        top = 1
-        while True:
-            s = self.ask(self.bad, top)
-            if s is not None:
-                path = self.settle([(s, top)])
-                if path:
-                    return 0x90, path
-                continue
-            top += 1
-            for i in range(1, top):
-                for s in [s for s in self.level if self.level[s] == i]:
-                    if self.ask(self.steps_to(s), i) is None:
-                        self.level[s] = i + 1
-            for i in range(1, top):
-                if i not in self.level.values():
-                    return 0x80, [s for s in self.level if self.level[s] >= i]
+    def __missing__(self, t):
+        self[t] = [s for s in self.states if true(self.step, s | t << 32)]
+        return self[t]
 
 
 def answer(text):
@@ -129,13 +82,14 @@ def answer(text):
         later = low if kind == 2 else 0
         if any(mask & 0xFFFFFFFF & ~low or mask >> 32 & ~later for clause in clauses for mask in clause):
             return frame(0xF0, 3, 0, 0)
-    search = Search(n, lists)
-    try:
-        kind, evidence = search.run()
-    except GivenUp as up:
-        return frame(0xA0, up.args[0], *search.asked.to_bytes(4, "big"))
-    head = frame(kind, *search.asked.to_bytes(4, "big"), *len(evidence).to_bytes(4, "big"))
-    return head + b"".join(frame(kind + 1, *s.to_bytes(4, "big")) for s in evidence)
+    start, bad = ([s for s in range(1 << n) if true(lists[kind], s)] for kind in (1, 3))
+    search = Search(set(start), Before(n, lists[2]), bad, ROOM, ALLOWANCE)
+    number, said, evidence = search.run()
+    asked = search.asked.to_bytes(4, "big")
+    if number:
+        return frame(0xA0, number, *asked)
+    kind = (0x80, 0x90)[said]
+    return frame(kind, *asked, *len(evidence).to_bytes(4, "big")) + b"".join(frame(kind + 1, *s.to_bytes(4, "big")) for s in evidence)
 
 
 # ---- texts
