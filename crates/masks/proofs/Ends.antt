@@ -1,12 +1,12 @@
 -- The ends of a mask. The lowest 1 is as high as the zeros below it are many, counted from position 0 on: below a 0 one more than in the half,
 -- below a 1 none. The highest 1 is at k if the mask lies between 2 ^ k and 2 ^ (k + 1). Assumes nothing.
-use mathlib.Core.Path.{_≡_, refl, ap, _∙_}
+use mathlib.Core.Path.{_≡_, refl, _∙_}
 use Prim.Native.Nat.{ℕ, zero, suc, _-_, _/_, _%_, _^_, _≤_, _<_}
 use native.Mathlib.Nat.{div-eq-of-lt-le, pow-suc}
 use native.Mathlib.Omega.{arith}
-use lib.Count.{leadingZeros, leading-top, trailingZeros, trailing-of-zero, under}
+use lib.Count.{leadingZeros, leading-top, trailingZeros, under}
 use Rattle.masks.specs.Bit.{bit}
-use Rattle.masks.specs.Ends.{Lowest, Highest, EndOr}
+use Rattle.masks.specs.Ends.{Lowest, Highest}
 use Rattle.masks.proofs.Bits.{bit-zero, bit-suc, bit-past}
 
 -- the lowest 1 of m, from that of its half: d is bit 0
@@ -19,16 +19,12 @@ lowest-step m k zero e r =
     low (suc j) h = bit-suc m j ∙ r refl .below j (omega arith)
 lowest-step m k (suc d) e r = record { here = omega (arith, bit-zero m); below = λ j h. absurd (omega arith) }
 
--- the lowest 1 of a mask that has one
-lowest-at : (w m : ℕ) → 0 < m → m < 2 ^ w → Lowest m (trailingZeros w m)
+-- `trailing_zeros` is the position of the lowest 1 of a mask that has one
+pub lowest-end : (w m : ℕ) → 0 < m → m < 2 ^ w → Lowest m (trailingZeros w m)
 unfolding trailingZeros
-lowest-at zero m p q = absurd (omega arith)
-lowest-at (suc w) m p q =
-    lowest-step m (trailingZeros w (m / 2)) (m % 2) refl (λ e. lowest-at w (m / 2) (omega arith) (omega (arith, pow-suc 2 w)))
-
--- `trailing_zeros` is the lowest end
-pub lowest-end : (w m : ℕ) → m < 2 ^ w → EndOr w Lowest m (trailingZeros w m)
-lowest-end w m h = record { none = λ e. ap (trailingZeros w) e ∙ trailing-of-zero w; found = λ p. lowest-at w m p h }
+lowest-end zero m p q = absurd (omega arith)
+lowest-end (suc w) m p q =
+    lowest-step m (trailingZeros w (m / 2)) (m % 2) refl (λ e. lowest-end w (m / 2) (omega arith) (omega (arith, pow-suc 2 w)))
 
 -- a mask between two powers has its highest 1 at the lower
 highest-at : (k m : ℕ) → 2 ^ k ≤ m → m < 2 ^ suc k → Highest m k

@@ -12,8 +12,3 @@ pub record Lowest (m k : ℕ) : Type 0 where
 pub record Highest (m k : ℕ) : Type 0 where
   pub here : bit m k ≡ 1
   pub above : (j : ℕ) → k < j → bit m j ≡ 0
-
--- k is the end of m that `End` names, lowest or highest; a mask that is 0 has no end, and k is then w
-pub record EndOr (w : ℕ) (End : ℕ → ℕ → Type 0) (m k : ℕ) : Type 0 where
-  pub none : m ≡ 0 → k ≡ w
-  pub found : 0 < m → End m k

@@ -36,7 +36,7 @@ clause-why ones zeros v e w a =
 
 -- the lowest bit of a mask that is not 0 is one of its bits
 lowest-within : (w m : ℕ) → m < 2 ^ w → (m ≡ 0 → ⊥) → trailingZeros w m < w
-lowest-within w m h f = bit-within w m (trailingZeros w m) h (lowest-end w m h .found (omega (arith, f)) .here)
+lowest-within w m h f = bit-within w m (trailingZeros w m) h (lowest-end w m (omega (arith, f)) h .here)
 
 -- the lowest open bit, if there is one, is below 64
 pub lowest-below : (ones zeros m : ℕ) → ones < 2 ^ 64 → zeros < 2 ^ 64 → (bitOr (bitAnd ones m) (bitAnd zeros m) ≡ 0 → ⊥)
