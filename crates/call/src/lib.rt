@@ -4,7 +4,7 @@ ghost use mathlib.Core.List.{_++_};
 ghost use Prim.Native.Nat.{_-_};
 ghost use lib.ListN.{length, replicate, take};
 ghost use Rattle.call.specs.Call.{wrongStores};
-ghost use Rattle.call.specs.Promise.{stores, evidenceOf};
+ghost use Rattle.call.specs.Promise.{stores, HandedBack};
 
 // The verdict, with the evidence's length: safe, unsafe, or neither.
 pub enum Verdict {
@@ -66,7 +66,7 @@ pub fn clear_behind(store: &mut [u64], front: usize)
 
 // The evidence: the front part of the state store after safe, of the path store after unsafe, and else the empty front of the state store.
 pub fn evidence<'a>(states: &'a [u64], path: &'a [u64], verdict: Verdict) -> &'a [u64]
-    ensures { λ r. ⌜ now r ≡ evidenceOf verdict (now (states .entry)) (now (path .entry)) ⌝ }
+    ensures { λ r. ⌜ HandedBack verdict (states .entry) (path .entry) r ⌝ }
 {
     match verdict {
         Verdict::SafeBy(n) => {

@@ -20,7 +20,7 @@ use Rattle.call.specs.Call.{Stores, Said, says-safe, says-unsafe, called}
 use Rattle.call.specs.Promise.{Right}
 use Rattle.call.proofs.Call.{Speaks, called-right, called-accepts}
 use Rattle.evidence.specs.Check.{each, refused, excludedStates, pathOf, checked, questionsOf}
-use Rattle.evidence.specs.Promise.{Judged, Excluded, Path}
+use Rattle.evidence.specs.Promise.{Judged, ExcludedChecked, PathChecked}
 use Rattle.evidence.specs.declared.Checked.{Checked}
 use Rattle.evidence.specs.declared.Checked.the-variants.{Yes, No, Refused}
 use Rattle.evidence.proofs.Each.{each-listed, listed-each}
@@ -97,11 +97,12 @@ module _ (y : System) (xs : List ℕ) where
 
     module _ (R : Type 0) (word : Said) (decides : Within → Decides (judge (model y) xs) R) (own : Own word R) where
       decided : refused y xs ≡ 0 → (c : Checked) → Decides c R → Judged y xs R word c
-      decided z (Yes q) d = record { yes = (λ t. (z, d), λ t. tt); no = (λ t. absurd t, λ t. t .1 d); own = λ lent allowance e f. tt }
+      decided z (Yes q) d = record { number = sym z; accepts = (λ t. (z, d), λ t. tt); rejects = (λ t. absurd t, λ t. t .1 d); own = λ lent allowance e f. tt }
       decided z (No q) d =
           record {
-            yes = (λ t. absurd t, λ t. d (t .1));
-            no = (λ t. (z, d), λ t. tt);
+            number = sym z;
+            accepts = (λ t. absurd t, λ t. d (t .1));
+            rejects = (λ t. (z, d), λ t. tt);
             own = λ lent allowance e f. d (own lent allowance e f .1);
           }
       decided z (Refused n) d = absurd d
@@ -115,8 +116,9 @@ module _ (y : System) (xs : List ℕ) where
           pick (suc r) e =
               rw (checked-refused r e)
               (record {
-                yes = (λ t. absurd t, λ t. absurd (omega (arith, t .0, e)));
-                no = (λ t. absurd t, λ t. absurd (omega (arith, t .0, e)));
+                number = sym e;
+                accepts = (λ t. absurd t, λ t. absurd (omega (arith, t .0, e)));
+                rejects = (λ t. absurd t, λ t. absurd (omega (arith, t .0, e)));
                 own = λ lent allowance f g. absurd (omega (arith, own lent allowance f g .0, e));
               })
 
@@ -135,18 +137,18 @@ module _ (y : System) (xs : List ℕ) where
       (accepts (called-accepts y lent allowance (rw e says)) (w .0), w .1)
 
   -- ---- the promises
-  pub excluded-promised : (r : Checked) → r ≡ checked excludedStates y xs → Excluded y xs r
+  pub excluded-promised : (r : Checked) → r ≡ checked excludedStates y xs → ExcludedChecked y xs r
   excluded-promised r e =
       let own-right = own says-safe (Excludes (model y) (listed xs)) tt (λ s. (s .states, s .excludes)) in
       let j = judged excludedStates (Excludes (model y) (listed xs)) says-safe (excluded-decides (model y) xs) own-right in
       rw e (record {
         equation = refl;
         judged = j;
-        never = λ t. excludes-never (model y) (listed xs) (j .yes .0 t .1);
+        never = λ t. excludes-never (model y) (listed xs) (j .accepts .0 t .1);
         few = checked-few excludedStates (suc (length xs)) (excluded-few (model y) xs);
       })
 
-  pub path-promised : (r : Checked) → r ≡ checked pathOf y xs → Path y xs r
+  pub path-promised : (r : Checked) → r ≡ checked pathOf y xs → PathChecked y xs r
   path-promised r e =
       let own-right = own says-unsafe (IsPath (model y) xs) tt (λ s. (path-within (model y) xs (s .real), s .real)) in
       let j = judged pathOf (IsPath (model y) xs) says-unsafe (path-decides (model y) xs) own-right in
@@ -154,7 +156,7 @@ module _ (y : System) (xs : List ℕ) where
         equation = refl;
         judged = j;
         reached = λ t.
-            let h = path-hit (model y) xs (j .yes .0 t .1) in
+            let h = path-hit (model y) xs (j .accepts .0 t .1) in
             record { steps = h .0; state = h .2 .state; reached = h .2 .reach; bad = h .2 .bad };
         none = omega (arith, checked-few pathOf 0 (omega (arith, path-none (model y) xs)));
       })

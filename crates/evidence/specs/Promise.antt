@@ -10,7 +10,7 @@ use Rattle.ic3.specs.Model.{Model}
 use Rattle.ic3.specs.Demands.{Reach, IsPath, listed, Excludes}
 use Rattle.system.specs.System.{System, model}
 use Rattle.call.specs.Call.{Stores, Said, says-safe, says-unsafe, called}
-use Rattle.evidence.specs.Check.{questionsOf, refused, excludedStates, pathOf, checked}
+use Rattle.evidence.specs.Check.{numberOf, questionsOf, refused, excludedStates, pathOf, checked}
 use Rattle.evidence.specs.declared.Checked.{Checked}
 use Rattle.evidence.specs.declared.Checked.the-variants.{Yes, No, Refused}
 
@@ -26,12 +26,13 @@ Says-no (Refused number) = ⊥
 
 -- Yes exactly if the evidence is right, no exactly if it is not; a refusal says neither. What the search hands back with this word is accepted.
 pub record Judged (y : System) (xs : List ℕ) (Right : Type 0) (word : Said) (r : Checked) : Type 0 where
-  pub yes : Says-yes r ↔ ((refused y xs ≡ 0) × Right)
-  pub no : Says-no r ↔ ((refused y xs ≡ 0) × (Right → ⊥))
+  pub number : numberOf r ≡ refused y xs
+  pub accepts : Says-yes r ↔ ((refused y xs ≡ 0) × Right)
+  pub rejects : Says-no r ↔ ((refused y xs ≡ 0) × (Right → ⊥))
   pub own : (lent : Stores) (allowance : ℕ) → called y lent allowance .said ≡ word → called y lent allowance .evidence ≡ xs → Says-yes r
 
 -- of excluded states
-pub record Excluded (y : System) (xs : List ℕ) (r : Checked) : Type 0 where
+pub record ExcludedChecked (y : System) (xs : List ℕ) (r : Checked) : Type 0 where
   pub equation : r ≡ checked excludedStates y xs
   pub judged : Judged y xs (Excludes (model y) (listed xs)) says-safe r
   pub never : Says-yes r → (k s : ℕ) → Reach (model y) k s → model y .bad s ≡ false
@@ -45,7 +46,7 @@ pub record Bad-reached (M : Model) : Type 0 where
   pub bad : M .bad state ≡ true
 
 -- of a path
-pub record Path (y : System) (xs : List ℕ) (r : Checked) : Type 0 where
+pub record PathChecked (y : System) (xs : List ℕ) (r : Checked) : Type 0 where
   pub equation : r ≡ checked pathOf y xs
   pub judged : Judged y xs (IsPath (model y) xs) says-unsafe r
   pub reached : Says-yes r → Bad-reached (model y)

@@ -8,7 +8,7 @@ ghost use Rattle.question.specs.Question.{answered};
 ghost use Rattle.system.specs.System.{listTrue, word};
 ghost use Rattle.call.specs.Promise.{systemOf};
 ghost use Rattle.evidence.specs.Check.{each, refused, outside, closedFrom, leadsOn};
-ghost use Rattle.evidence.specs.Promise.{Excluded, Path};
+ghost use Rattle.evidence.specs.Promise.{ExcludedChecked, PathChecked};
 
 // Yes or no, with the count of questions asked; or the number of a refusal, which says neither.
 pub enum Checked {
@@ -100,9 +100,9 @@ fn closed(n: u32, step: &[u64], states: &[u64]) -> Checked
     Checked::Yes(asked)
 }
 
-// Excluded states: yes exactly if no start state is listed, every bad state is listed, and no state outside the list steps into it.
+// ExcludedChecked states: yes exactly if no start state is listed, every bad state is listed, and no state outside the list steps into it.
 pub fn check_excluded(n: u32, start: &[u64], step: &[u64], bad: &[u64], states: &[u64]) -> Checked
-    ensures { λ r. ⌜ Excluded (systemOf n (now (start .entry)) (now (step .entry)) (now (bad .entry))) (now (states .entry)) r ⌝ }
+    ensures { λ r. ⌜ ExcludedChecked (systemOf n (now (start .entry)) (now (step .entry)) (now (bad .entry))) (now (states .entry)) r ⌝ }
 {
     let number = refusal(n, start, step, bad, states);
     if number != 0 {
@@ -135,7 +135,7 @@ fn leads_on(step: &[u64], bad: &[u64], path: &[u64]) -> bool
 
 // Path: yes exactly if it is not empty, begins with a start state, each state steps to the next, and the last is bad. Its length is not judged.
 pub fn check_path(n: u32, start: &[u64], step: &[u64], bad: &[u64], path: &[u64]) -> Checked
-    ensures { λ r. ⌜ Path (systemOf n (now (start .entry)) (now (step .entry)) (now (bad .entry))) (now (path .entry)) r ⌝ }
+    ensures { λ r. ⌜ PathChecked (systemOf n (now (start .entry)) (now (step .entry)) (now (bad .entry))) (now (path .entry)) r ⌝ }
 {
     let number = refusal(n, start, step, bad, path);
     if number != 0 {

@@ -8,12 +8,12 @@ use Rattle.answer.proofs.put_outcome.Tie as tie
 put-verdict-requires : tie.Need-put-verdict-requires
 put-verdict-requires c κs =
     let s = c .before .before .before .before .before .before .before in
-    (search needs, evidence-short (s .args .outcome .verdict) _ _ _ (c .evidence .ensures) (s .pre .0) (s .pre .1))
+    (search needs, evidence-short (s .args .outcome .verdict) _ _ _ (c .evidence .ensures .content) (s .pre .0) (s .pre .1))
 
 put-verdict-requires-2 : tie.Need-put-verdict-requires-2
 put-verdict-requires-2 c κs =
     let s = c .before .before .before .before .before .before .before in
-    (search needs, evidence-short (s .args .outcome .verdict) _ _ _ (c .evidence2 .ensures) (s .pre .0) (s .pre .1))
+    (search needs, evidence-short (s .args .outcome .verdict) _ _ _ (c .evidence2 .ensures .content) (s .pre .0) (s .pre .1))
 
 returns : tie.Need-returns
 returns c =
@@ -28,7 +28,7 @@ returns-2 c =
     let p = c .before .before in
     let told = p .before .before .before in
     let a = told .before .before .before .before .before .args in
-    rw (safe-lines (a .outcome) (a .states .now) (a .path .now) _ _ (told .enum-told .given .1) (p .before .evidence .ensures))
+    rw (safe-lines (a .outcome) (a .states .now) (a .path .now) _ _ (told .enum-told .given .1) (p .before .evidence .ensures .content))
     (p .put-verdict .ensures)
 
 returns-3 : tie.Need-returns-3
@@ -36,7 +36,7 @@ returns-3 c =
     let p = c .before .before in
     let told = p .before .before .before in
     let a = told .before .before .before .before .before .args in
-    rw (unsafe-lines (a .outcome) (a .states .now) (a .path .now) _ _ (told .enum-told2 .given .1) (p .before .evidence2 .ensures))
+    rw (unsafe-lines (a .outcome) (a .states .now) (a .path .now) _ _ (told .enum-told2 .given .1) (p .before .evidence2 .ensures .content))
     (p .put-verdict2 .ensures)
 
 returns-4 : tie.Need-returns-4
