@@ -1,5 +1,5 @@
--- The call, case by case; that it has one result; that what it says is right; and that every store keeps its length, since evidence is never
--- longer than the room and a path by at most two. Assumes nothing.
+-- The call, case by case; that it has one result; demands 3 and 2 of it, which are the search's, since number, verdict and questions are; and that
+-- every store keeps its length, since evidence is never longer than the room and a path by at most two. Assumes nothing.
 use Prim.Native.Nat.{ℕ, zero, suc, _+_, _≤_}
 use mathlib.Core.Bool.{Bool, true, false, not, _||_}
 use mathlib.Core.List.{List, []}
@@ -10,13 +10,14 @@ use lib.Dec.{eqb, ltb}
 use lib.ListN.{length}
 use Rattle.ic3.specs.Model.{Model}
 use Rattle.ic3.specs.Search.{Verdict, safe, unsafe, noRoom, spent, searched}
-use Rattle.ic3.specs.Demands.{Demand-2}
+use Rattle.ic3.specs.Demands.{Demand-2, Doomed, Number, Answered}
 use Rattle.ic3.proofs.Tests.{clash}
 use Rattle.ic3.proofs.Sound.{demand-2}
+use Rattle.ic3.proofs.Bound.{demand-3}
 use Rattle.ic3.proofs.Fit.{FitsEnding, ending-fits}
 use Rattle.system.specs.System.{System, model, refusalOf}
 use Rattle.call.specs.Call.{Stores, wrongStores, refused, Said, says-safe, says-unsafe, says-nothing, Result, result, leaves, ended, called}
-use Rattle.call.specs.Promise.{Right}
+use Rattle.call.specs.Promise.{Right, Within}
 use Rattle.call.proofs.Over.{over-length}
 
 -- the system's own refusals come first
@@ -52,6 +53,39 @@ module _ (y : System) (s : Stores) (allowance : ℕ) where
   -- any two results that the call allows are equal
   pub one-result : (r r' : Result) → r ≡ called y s allowance → r' ≡ called y s allowance → r ≡ r'
   one-result r r' e e' = e ∙ sym e'
+
+-- ---- demand 3
+module _ (s : Stores) (q : ℕ) where
+  -- an answer has the number 0
+  ended-answers : (v : Verdict) → Answered v → ended s q v .number ≡ 0
+  unfolding ended
+  ended-answers (safe evidence) a = refl
+  ended-answers (unsafe path) a = refl
+  ended-answers noRoom a = absurd a
+  ended-answers spent a = absurd a
+
+  -- every ending reports the questions
+  ended-questions : (v : Verdict) → ended s q v .questions ≡ q
+  unfolding ended
+  ended-questions (safe evidence) = refl
+  ended-questions (unsafe path) = refl
+  ended-questions noRoom = refl
+  ended-questions spent = refl
+
+-- a call asks no more than the bound, and with room and leave for that it does not give up
+pub called-within : (y : System) (s : Stores) (allowance m : ℕ) → Number (Doomed (model y)) m → Within y s allowance (called y s allowance) m
+called-within y s allowance m D = pick (refused y s) refl
+  where
+    pick : (r : ℕ) → refused y s ≡ r → Within y s allowance (called y s allowance) m
+    pick zero e =
+        let b = demand-3 (model y) .bounded m D in
+        let room = length (s .states) in
+        rw (called-searches y s allowance e)
+        (record {
+          few = rw (ended-questions s _ _) (b .few room allowance);
+          answers = λ z f g. ended-answers s _ _ (b .answers room allowance f g);
+        })
+    pick (suc r) e = rw (called-refused y s allowance r e) (record { few = omega arith; answers = λ z f g. absurd (omega arith) })
 
 -- ---- demand 2
 ended-right : (M : Model) (s : Stores) (q : ℕ) (v : Verdict) → Demand-2 M v → Right M (ended s q v .said) (ended s q v .evidence)

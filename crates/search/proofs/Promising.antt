@@ -1,6 +1,5 @@
 -- The public call's promise, of a refusal and of a search that was closed. Evidence and zeros depend on the lent stores' lengths alone, so the stores
--- that the search ends with give what the lent ones would; demands 2 and 3 are those of the definition, since number, verdict and questions are.
--- Assumes nothing.
+-- that the search ends with give what the lent ones would; demands 2 and 3 are those of the definition. Assumes nothing.
 use Prim.Native.Nat.{ℕ, zero, suc}
 use mathlib.Core.Bool.{true}
 use mathlib.Core.List.{List, []}
@@ -8,7 +7,6 @@ use mathlib.Core.Path.{_≡_, refl, sym, ap, _∙_}
 use native.Mathlib.Omega.{arith}
 use lib.ListN.{length}
 use Rattle.ic3.specs.Search.{Verdict as Ending, safe, unsafe, noRoom, spent, searched}
-use Rattle.ic3.specs.Demands.{Answered}
 use Rattle.ic3.proofs.Fit.{FitsEnding, ending-fits}
 use Rattle.ic3.proofs.Bound.{demand-3}
 use Rattle.system.specs.System.{System, model, refusalOf}
@@ -21,7 +19,7 @@ use Rattle.search.specs.declared.End.the-variants.{Safe, Unsafe, NoRoom,
 use Rattle.call.specs.declared.Outcome.{Outcome}
 use Rattle.call.specs.declared.Verdict.{Verdict}
 use Rattle.call.specs.declared.Verdict.the-variants.{SafeBy, UnsafeBy, Neither}
-use Rattle.call.proofs.Call.{refused-system, refused-stores, refused-none, called-refused, called-searches, called-right, stores-fitting, Lengths}
+use Rattle.call.proofs.Call.{refused-system, refused-stores, refused-none, called-refused, called-searches, called-within, called-right, stores-fitting, Lengths}
 use Rattle.call.proofs.Over.{over-same}
 use Rattle.search.proofs.Closing.{part-length}
 
@@ -44,23 +42,6 @@ module _ (s s' : Stores) (w : Lengths s s') where
   ended-same q (unsafe path) = rw (leaves-same [] path)
   ended-same q noRoom = rw (leaves-same [] [])
   ended-same q spent = rw (leaves-same [] [])
-
-module _ (s : Stores) (q : ℕ) where
-  -- every ending reports the questions
-  ended-questions : (v : Ending) → ended s q v .questions ≡ q
-  unfolding ended
-  ended-questions (safe evidence) = refl
-  ended-questions (unsafe path) = refl
-  ended-questions noRoom = refl
-  ended-questions spent = refl
-
-  -- an answer has the number 0
-  ended-answers : (v : Ending) → Answered v → ended s q v .number ≡ 0
-  unfolding ended
-  ended-answers (safe evidence) a = refl
-  ended-answers (unsafe path) a = refl
-  ended-answers noRoom a = absurd a
-  ended-answers spent a = absurd a
 
 module _ {y : System} {room allowance : ℕ} {e : End} {asked : ℕ} {ss ls path : List ℕ} (w : Ends y room allowance e asked ss ls path) where
   -- a path is longer than the room by at most two
@@ -90,7 +71,7 @@ module _ (y : System) (lent : Stores) (allowance : ℕ) where
         equation = sym e;
         evidence-length = rw e;
         demand-2 = tt;
-        demand-3 = λ m D. record { few = omega arith; answers = λ z f g. absurd (omega arith) };
+        demand-3 = λ m D. rw e at (called-within y lent allowance m D);
         exists-m = demand-3 (model y) .exists;
       })
 
@@ -136,17 +117,12 @@ module _ {y : System} {lent : Stores} {allowance : ℕ} (h : refused y lent ≡ 
   -- a search that ended and was closed: what it returns is the call's result, so what holds of the definition's search holds of it
   pub searched-promised : {o : Outcome} {after : Stores} → Closes s e asked o after → Promised y lent allowance o after
   searched-promised {o} {after} c =
-      let room = length (lent .states) in
       let q : resultOf o after ≡ called y lent allowance = c .0 ∙ sym called-ends in
       record {
         equation = q;
         evidence-length = rw called-ends (c .1);
         demand-2 = rw (ap (λ r. r .said) q, ap (λ r. r .evidence) q) (called-right y lent allowance);
-        demand-3 = λ m D. let b = demand-3 (model y) .bounded m D in
-            record {
-              few = rw (ap (λ r. r .questions) (c .0) ∙ (ended-questions s asked v ∙ w .questions)) (b .few room allowance);
-              answers = λ z f g. ap (λ r. r .number) (c .0) ∙ ended-answers s asked v (rw (w .verdict) (b .answers room allowance f g));
-            };
+        demand-3 = λ m D. rw q (called-within y lent allowance m D);
         exists-m = demand-3 (model y) .exists;
       }
 
