@@ -18,7 +18,7 @@ sum-last (x ∷ xs) b = omega (arith, sum-last xs b)
 
 number-last : (high : ℕ) (l : List ℕ) (b : ℕ) → number high (l ++ (b ∷ [])) ≡ 256 * number high l + b
 unfolding number
-number-last high [] b = refl
+number-last high [] b = omega arith
 number-last high (x ∷ xs) b = number-last (256 * high + x) xs b
 
 module _ (text : List ℕ) where

@@ -1,29 +1,17 @@
 -- What code needs so that its indices hold: the stored states never outgrow the room, N stays near it, and evidence and path fit the lent
 -- stores. A round that leaves a state at each level below N shows N - 1 of them, and they are within the room. Assumes nothing.
 use Prim.Native.Nat.{ℕ, zero, suc, _+_, _≤_, _<_}
-use mathlib.Core.Bool.{not, _||_}
 use mathlib.Core.List.{List, [], _∷_}
 use mathlib.Core.Option.{Option, none, some}
 use mathlib.Core.Path.{_≡_}
 use native.Mathlib.Omega.{arith}
-use borrow.Author.Tests.{eqb-true, eqb-false, le-leb}
-use lib.Dec.{eqb, leb, ltb}
+use lib.Dec.{leb}
 use lib.ListN.{length}
 use Rattle.ic3.specs.Model.{Model, Answers}
-use Rattle.ic3.specs.Search.{Entry, levelOf, put, Phase, look, settle, raise, wanted, Verdict, safe, unsafe, noRoom, spent, Move, go, settled, tested, found, deeper, fits, kept, react, searched}
-use Rattle.ic3.proofs.Tests.{test}
-use Rattle.ic3.proofs.Store.{Tidy, put-new, put-old, states-length}
+use Rattle.ic3.specs.Search.{Entry, put, Phase, look, settle, raise, wanted, Verdict, safe, unsafe, noRoom, spent, Move, go, settled, tested, found, deeper, kept, react, searched}
+use Rattle.ic3.proofs.Store.{put-old, states-length}
 use Rattle.ic3.proofs.Round.{Lands, round-lands, tested-lands, kept-lands, taken-length}
 use Rattle.ic3.proofs.Sound.{Kept, Stands, Then, search-keeps}
-
--- The store outgrows the room exactly if a state must be stored anew and the store is full; raising a level needs no room.
-pub outgrown : (room : ℕ) (st : List Entry) (s k : ℕ) → Tidy st → length st ≤ room
-    → fits room (put st s k) ≡ (not (eqb (levelOf st s) 0) || ltb (length st) room)
-unfolding fits
-outgrown room st s k w h =
-    test (eqb (levelOf st s) 0)
-    (λ e. rw (e, put-new st s k w (eqb-true (levelOf st s) 0 e)))
-    (λ e. rw (e, put-old st s k (omega (arith, eqb-false (levelOf st s) 0 e))) (le-leb (length st) room h))
 
 module _ (M : Model) (room : ℕ) where
   pub record Within (N : ℕ) (st : List Entry) (highest : ℕ) : Type 0 where

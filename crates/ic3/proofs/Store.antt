@@ -1,13 +1,13 @@
 -- The store as a list: what storing and raising do to levels, to their sum and to the number of stored states; which states a level has;
 -- and that a list without repetition is no longer than one that has all its numbers. Assumes nothing.
 use Prim.Native.Nat.{ℕ, suc, _+_, _*_, _≤_, _<_}
-use mathlib.Core.Bool.{Bool, true, false}
+use mathlib.Core.Bool.{Bool, true, false, not, _||_}
 use mathlib.Core.List.{List, [], _∷_}
 use mathlib.Core.Path.{_≡_, refl, sym, ap, _∙_}
 use native.Mathlib.Omega.{arith}
 use native.Mathlib.Nat.{mul-suc}
 use borrow.Author.Tests.{leb-true, leb-false, eqb-true, eqb-false, eq-eqb, ne-eqb, le-leb, lt-leb}
-use lib.Dec.{eqb, leb}
+use lib.Dec.{eqb, leb, ltb}
 use lib.ListN.{length}
 use Rattle.ic3.specs.Search.{Entry, levelOf, put, states, fits}
 use Rattle.ic3.specs.Demands.{listed, Distinct}
@@ -78,6 +78,16 @@ put-more st s k w =
     (λ e. omega (arith, put-new st s k w (eqb-true (levelOf st s) 0 e)))
     (λ e. omega (arith, put-old st s k (omega (arith, eqb-false (levelOf st s) 0 e))))
 
+-- The store outgrows the room exactly if a state must be stored anew and the store is full; raising a level needs no room.
+pub outgrown : (room : ℕ) (st : List Entry) (s k : ℕ) → Tidy st → length st ≤ room
+    → fits room (put st s k) ≡ (not (eqb (levelOf st s) 0) || ltb (length st) room)
+unfolding fits
+outgrown room st s k w h =
+    test (eqb (levelOf st s) 0)
+    (λ e. rw (e, put-new st s k w (eqb-true (levelOf st s) 0 e)))
+    (λ e. rw (e, put-old st s k (omega (arith, eqb-false (levelOf st s) 0 e))) (le-leb (length st) room h))
+
+-- what is tested of the store after storing or raising
 pub fits-true : (room : ℕ) (st : List Entry) → fits room st ≡ true → length st ≤ room
 unfolding fits
 fits-true room st e = leb-true (length st) room e

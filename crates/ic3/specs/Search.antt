@@ -80,7 +80,7 @@ unfoldable pub round : ℕ → ℕ → ℕ → List Entry → Move
 round N zero i st = judge N (N - 1) 1 st
 round N (suc left) i st = elim (states (eqb i) st) [ [] ↦ round N left (suc i) st | s ∷ todo ↦ go (at N st (raise i s todo)) ]
 
--- step 4 at level i goes on to the next of todo that sits at level i, then to the next level
+-- step 4 at level i: the next of todo that sits at level i, which all of them do while a test takes out no other entry; then the next level
 unfoldable pub tested : ℕ → List Entry → ℕ → List ℕ → Move
 tested N st i [] = round N (N - suc i) (suc i) st
 tested N st i (s ∷ todo) = elim (eqb (levelOf st s) i) [ true ↦ go (at N st (raise i s todo)) | false ↦ tested N st i todo ]
