@@ -1,6 +1,7 @@
 // The worked sequencers of document 01, and calls at the edge of each refusal, a line each: the number, the verdict, the questions, the evidence,
 // and what the three stores hold afterwards. The file `stdout` is worked out by hand from document 01.
 ghost use Prim.Native.Nat.{_≤_};
+ghost use lib.ListN.{length};
 
 // Start {0} and bad {3}, of two bits.
 const ZERO: [u64; 4] = [0, 1, 0, 2];
@@ -272,11 +273,15 @@ fn odd_counts() {
     lend_bad(b"odd bad", &bad[..1]);
 }
 
-// With 4096 clauses that are all false there is no step.
+// With clauses that are all false there is no start state, no step, or no bad state.
 fn many_clauses() {
     let many = [0u64; 8194];
+    lend_start(b"4096 start clauses", &many[..8192]);
+    lend_start(b"4097 start clauses", &many);
     lend_step(b"4096 step clauses", &many[..8192]);
     lend_step(b"4097 step clauses", &many);
+    lend_bad(b"4096 bad clauses", &many[..8192]);
+    lend_bad(b"4097 bad clauses", &many);
 }
 
 fn bits() {
@@ -284,6 +289,7 @@ fn bits() {
     let later = [0x4_0000_0000u64, 0];
     let after = [0x1_0000_0000u64, 0];
     lend_start(b"bit 2 in start", &two);
+    lend_start(b"later bit 0 in start", &after);
     lend_step(b"bit 2 in step", &two);
     lend_step(b"later bit 2 in step", &later);
     lend_bad(b"later bit 0 in bad", &after);
@@ -302,6 +308,35 @@ fn small_stores() {
     lend_ring(b"Ring, stores 1 1 2", 1, 1, 2);
     lend_ring(b"Ring, stores 0 0 2", 0, 0, 2);
     lend_ring(b"Ring, stores 0 0 1", 0, 0, 1);
+}
+
+// Ring with these stores, of which the line has the fronts.
+fn run_fronts(states: &mut [u64], levels: &mut [u32], path: &mut [u64])
+    requires { ⌜ (4 ≤ length (now states)) × (4 ≤ length (now levels)) × (6 ≤ length (now path)) ⌝ }
+{
+    let start = ZERO;
+    let step = RING;
+    let bad = THREE;
+    let outcome = search::search(2, &start, &step, &bad, states, levels, path, ENOUGH);
+    write_line(outcome, &states[..4], &levels[..4], &path[..6]);
+}
+
+// Ring with this large room.
+fn lend_fronts(name: &[u8], room: usize)
+    requires { ⌜ (4 ≤ room) × (room ≤ 65537) ⌝ }
+{
+    let mut states = [FILLED; 65537];
+    let mut levels = [FILLED as u32; 65537];
+    let mut path = [FILLED; 65539];
+    let most = room + 2;
+    write(name);
+    run_fronts(&mut states[..room], &mut levels[..room], &mut path[..most]);
+}
+
+// A room of 65,536 is the largest.
+fn long_stores() {
+    lend_fronts(b"Ring, fronts of stores 65536 65536 65538", 65536);
+    lend_fronts(b"Ring, fronts of stores 65537 65537 65539", 65537);
 }
 
 // Ring with this start list, a bad list that uses bit 2, and a path store that is too short.
@@ -328,5 +363,6 @@ fn main() {
     bits();
     unequal_stores();
     small_stores();
+    long_stores();
     order();
 }
