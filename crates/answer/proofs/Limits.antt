@@ -7,9 +7,9 @@ use mathlib.Core.Path.{_≡_, refl, ap}
 use native.Mathlib.Omega.{arith}
 use borrow.Author.Tests.{ne-eqb, le-ltb}
 use lib.ListN.{length, take}
+use Rattle.base.proofs.Tests.{test}
 use Rattle.ic3.specs.Search.{Verdict, safe, unsafe, noRoom, spent}
 use Rattle.ic3.specs.Demands.{listed}
-use Rattle.ic3.proofs.Tests.{test}
 use Rattle.system.specs.System.{System, wrongSize, wrongCount, wrongBit, refusalOf}
 use Rattle.call.specs.Call.{Stores, wrongStores, refused, ended, called}
 use Rattle.call.proofs.Call.{refused-system, refused-stores, called-refused, called-searches}

@@ -5,9 +5,9 @@ use mathlib.Core.List.{List}
 use mathlib.Core.Path.{_≡_, refl, sym, ap, _∙_}
 use native.Mathlib.Omega.{arith}
 use lib.Dec.{ltb}
+use Rattle.base.proofs.Tests.{test}
 use Rattle.ic3.specs.Model.{Model}
 use Rattle.ic3.specs.Demands.{Safe, Unsafe}
-use Rattle.ic3.proofs.Tests.{test}
 use Rattle.system.specs.System.{model}
 use Rattle.call.specs.Call.{Stores, Said, says-safe, says-unsafe, says-nothing, result, called}
 use Rattle.call.specs.Promise.{Right}

@@ -5,10 +5,9 @@ use mathlib.Core.List.{List}
 use mathlib.Core.Path.{_≡_, refl, ap, _∙_}
 use native.Mathlib.Omega.{arith}
 use lib.ListN.{length, take, replicate, length-append, length-replicate}
-use Rattle.system.specs.System.{System}
-use Rattle.call.specs.Call.{over}
-use Rattle.call.specs.Promise.{systemOf}
-use Rattle.call.proofs.Over.{over-front}
+use Rattle.stores.proofs.Over.{over-front}
+use Rattle.stores.specs.Over.{over}
+use Rattle.system.specs.System.{System, systemOf}
 use Rattle.house.specs.File.{Reading, Said, file, refused, said}
 use Rattle.house.specs.Promise.{Lists, lists, roomsOf, filled, Result, resultOf, Reads}
 use Rattle.house.specs.declared.House.{House}

@@ -6,7 +6,7 @@ use mathlib.Core.Path.{_≡_, refl}
 use native.Mathlib.Omega.{arith}
 use lib.Dec.{ltb}
 use lib.ListN.{length, length-append}
-use Rattle.ic3.proofs.Tests.{test}
+use Rattle.base.proofs.Tests.{test}
 use Rattle.call.specs.Call.{Stores, Said, says-safe, says-unsafe, says-nothing, result}
 use Rattle.call.proofs.Call.{called-evidence}
 use Rattle.house.specs.File.{Said as Read, file, refused, said}

@@ -4,9 +4,9 @@ use mathlib.Core.Bool.{true, false}
 use mathlib.Core.List.{List, [], _∷_, _++_}
 use lib.Dec.{ltb}
 use lib.ListN.{length, replicate}
-use Rattle.system.specs.System.{System}
+use Rattle.system.specs.System.{System, systemOf}
 use Rattle.call.specs.Call.{Stores, says-safe, says-unsafe, says-nothing, Result, called}
-use Rattle.call.specs.Promise.{systemOf, stores}
+use Rattle.call.specs.Promise.{stores}
 use Rattle.house.specs.File.{Rooms, Reading, Said, file, refused, said}
 use Rattle.answer.specs.Output.{lineOf, one, two, four}
 

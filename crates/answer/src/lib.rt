@@ -3,7 +3,7 @@ ghost use mathlib.Core.List.{[], _∷_};
 ghost use mathlib.Core.Path.{_≡_};
 ghost use Prim.Native.Nat.{_/_, _%_, _^_, _≤_, _<_};
 ghost use lib.ListN.{length};
-ghost use Rattle.call.specs.Promise.{systemOf};
+ghost use Rattle.system.specs.System.{systemOf};
 ghost use Rattle.answer.specs.Output.{letter, digits, lineOf};
 ghost use Rattle.answer.specs.Answer.{stateLines, verdictLines, gaveUpLine, refusalLine, systemLines};
 ghost use Rattle.answer.specs.Promise.{Writes, outcomeLines, Answers};

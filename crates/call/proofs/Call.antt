@@ -8,17 +8,19 @@ use native.Mathlib.Omega.{arith}
 use borrow.Author.Tests.{eqb-true, ltb-false}
 use lib.Dec.{eqb, ltb}
 use lib.ListN.{length}
+use Rattle.stores.proofs.Over.{over-length}
+use Rattle.base.proofs.Tests.{clash}
+use Rattle.base.specs.Refusals.{_if_}
+use Rattle.base.proofs.Refusals.{else-none, if-none}
 use Rattle.ic3.specs.Model.{Model}
 use Rattle.ic3.specs.Search.{Verdict, safe, unsafe, noRoom, spent, searched}
 use Rattle.ic3.specs.Demands.{Demand-2, Doomed, Number, Answered}
-use Rattle.ic3.proofs.Tests.{clash}
 use Rattle.ic3.proofs.Sound.{demand-2}
 use Rattle.ic3.proofs.Bound.{demand-3}
 use Rattle.ic3.proofs.Fit.{FitsEnding, ending-fits}
 use Rattle.system.specs.System.{System, model, refusalOf}
 use Rattle.call.specs.Call.{Stores, wrongStores, refused, Said, says-safe, says-unsafe, says-nothing, Result, result, leaves, ended, called}
 use Rattle.call.specs.Promise.{Right, Within}
-use Rattle.call.proofs.Over.{over-length}
 
 -- the system's own refusals come first
 pub refused-system : (y : System) (s : Stores) (r : ℕ) → refusalOf y ≡ suc r → refused y s ≡ suc r
@@ -26,18 +28,13 @@ unfolding refused
 refused-system y s r e = rw (e, refused)
 
 -- then refusal 4, or none
-pub refused-stores : (y : System) (s : Stores) {b : Bool} → refusalOf y ≡ 0 → wrongStores s ≡ b → refused y s ≡ elim b [ true ↦ 4 | false ↦ 0 ]
+pub refused-stores : (y : System) (s : Stores) {b : Bool} → refusalOf y ≡ 0 → wrongStores s ≡ b → refused y s ≡ 4 if b
 unfolding refused
 refused-stores y s e w = rw (e, refused) (rw w)
 
 pub refused-none : (y : System) (s : Stores) → refused y s ≡ 0 → (refusalOf y ≡ 0) × (wrongStores s ≡ false)
 unfolding refused
-refused-none y s e = pick (refusalOf y) (wrongStores s) e
-  where
-    pick : (r : ℕ) (b : Bool) → _≡_ {A = ℕ} (elim r [ zero ↦ elim b [ true ↦ 4 | false ↦ 0 ] | suc q ↦ suc q ]) 0 → (r ≡ 0) × (b ≡ false)
-    pick zero true g = absurd (omega arith)
-    pick zero false g = (refl, refl)
-    pick (suc r) b g = absurd (omega arith)
+refused-none y s e = let n = else-none (refusalOf y) (4 if wrongStores s) e in (n .0, if-none 3 (wrongStores s) (n .1))
 
 module _ (y : System) (s : Stores) (allowance : ℕ) where
   pub called-refused : (r : ℕ) → refused y s ≡ suc r → called y s allowance ≡ result (suc r) says-nothing 0 [] s

@@ -6,11 +6,11 @@ use mathlib.Core.Bool.{Bool, true, false, not}
 use mathlib.Core.List.{List, [], _∷_, map}
 use mathlib.Core.Path.{_≡_, refl, ap}
 use lib.Dec.{eqb}
+use Rattle.base.proofs.Tests.{clash}
 use Rattle.masks.specs.Bit.{bit, somewhere}
 use Rattle.masks.proofs.Somewhere.{somewhere-false}
 use Rattle.ic3.specs.Model.{least}
 use Rattle.ic3.specs.Search.{levelOf, put, states, R, wanted, Verdict, safe, unsafe, noRoom, spent, judge, round, tested, found, deeper, settled, fits, kept, react, next, run, searched}
-use Rattle.ic3.proofs.Tests.{clash}
 use Rattle.system.specs.System.{System, literalTrue, clauseTrue, listTrue, word, model, wrongSize, wrongCount, wrongBit, refusalOf}
 use Rattle.call.specs.Call.{Stores, Result, ended}
 use Rattle.call.specs.Sequencers.{Step, given, ring, ringGiven, late, lateGiven, chain, chainGiven, Given, Sequencer, sequencer, sequencers, Ends, Worked}

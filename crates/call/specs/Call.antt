@@ -1,9 +1,11 @@
 -- The whole call of document 01: for every system, stores and allowance what it returns, and what the lent stores hold afterwards.
-use Prim.Native.Nat.{ℕ, zero, suc, _+_, _-_}
-use mathlib.Core.Bool.{Bool, true, false, not, _||_}
-use mathlib.Core.List.{List, [], _++_}
+use Prim.Native.Nat.{ℕ, zero, suc, _+_}
+use mathlib.Core.Bool.{Bool, not, _||_}
+use mathlib.Core.List.{List, []}
 use lib.Dec.{eqb, ltb}
-use lib.ListN.{length, replicate}
+use lib.ListN.{length}
+use Rattle.base.specs.Refusals.{_if_, _else_}
+use Rattle.stores.specs.Over.{over}
 use Rattle.ic3.specs.Search.{Verdict, safe, unsafe, noRoom, spent, searched}
 use Rattle.system.specs.System.{System, model, refusalOf}
 
@@ -21,7 +23,7 @@ wrongStores s =
 
 -- the refusals in the order 1, 2, 3, 4; 0 if there is none
 unfoldable pub refused : System → Stores → ℕ
-refused y s = elim (refusalOf y) [ zero ↦ elim (wrongStores s) [ true ↦ 4 | false ↦ 0 ] | suc r ↦ suc r ]
+refused y s = refusalOf y else 4 if wrongStores s
 
 -- what is said, with the number 0; with every other number, nothing
 pub data Said : Type 0 where
@@ -35,10 +37,6 @@ pub record Result : Type 0 where
   pub questions : ℕ
   pub evidence : List ℕ
   pub after : Stores
-
--- the store starts with `front`, and everything behind that is zero
-unfoldable pub over : List ℕ → List ℕ → List ℕ
-over front store = front ++ replicate (length store - length front) 0
 
 -- the state store and the path store start with these, and everything else is zero
 unfoldable pub leaves : Stores → List ℕ → List ℕ → Stores

@@ -12,10 +12,6 @@ use Rattle.call.specs.declared.Outcome.{Outcome}
 use Rattle.call.specs.declared.Verdict.{Verdict}
 use Rattle.call.specs.declared.Verdict.the-variants.{SafeBy, UnsafeBy, Neither}
 
--- a system out of its lists
-abbrev pub systemOf : ℕ → List ℕ → List ℕ → List ℕ → System
-systemOf n start step bad = record { n = n; start = start; step = step; bad = bad }
-
 -- the three lent stores
 abbrev pub stores : List ℕ → List ℕ → List ℕ → Stores
 stores ss ls path = record { states = ss; levels = ls; path = path }

@@ -10,8 +10,8 @@ use borrow.Author.Tests.{eqb-true, eq-eqb, ltb-true, lt-ltb, le-ltb}
 use lib.Dec.{eqb, ltb}
 use lib.ListN.{length, getD, drop, drop-of-length-le}
 use lib.Seq.{drop-cons}
+use Rattle.base.proofs.Tests.{test, clash}
 use Rattle.ic3.specs.Demands.{listed}
-use Rattle.ic3.proofs.Tests.{test, clash}
 use Rattle.evidence.specs.Check.{each}
 
 module _ (p : ℕ → Bool) (l : List ℕ) where

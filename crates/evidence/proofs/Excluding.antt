@@ -12,10 +12,10 @@ use borrow.Author.Tests.{not-true, not-false, eqb-true, eq-eqb}
 use lib.Dec.{eqb}
 use lib.ListN.{length, getD, drop, drop-of-length-le}
 use lib.Seq.{drop-cons}
+use Rattle.base.proofs.Tests.{test, clash, both, first-false}
 use Rattle.ic3.specs.Model.{Model, Answers}
 use Rattle.ic3.specs.Demands.{listed, Excludes}
 use Rattle.ic3.proofs.Least.{least-answers}
-use Rattle.ic3.proofs.Tests.{test, clash, both, first-false}
 use Rattle.evidence.specs.Check.{each, outside, closedFrom, excludedStates, questionsOf}
 use Rattle.evidence.specs.declared.Checked.{Checked}
 use Rattle.evidence.specs.declared.Checked.the-variants.{Yes, No, Refused}

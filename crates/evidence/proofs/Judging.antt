@@ -2,15 +2,17 @@
 -- and no are said exactly then, and a yes has the meaning of demand 2. What the search hands back is right and lists states, so it is accepted.
 -- Assumes nothing.
 use Prim.Native.Nat.{ℕ, zero, suc, _^_, _<_, _≤_}
-use mathlib.Core.Bool.{Bool, true, false}
+use mathlib.Core.Bool.{Bool, true, false, not}
 use mathlib.Core.List.{List}
 use mathlib.Core.Path.{_≡_, refl, sym}
 use native.Mathlib.Nat.{lt-of-lt-of-le}
 use native.Mathlib.Omega.{arith}
-use borrow.Author.Tests.{ltb-true, lt-ltb}
+use borrow.Author.Tests.{not-false, ltb-true, lt-ltb}
 use lib.Dec.{ltb}
 use lib.ListN.{length}
 use lib.Pow.{pow-mono}
+use Rattle.base.specs.Refusals.{_if_}
+use Rattle.base.proofs.Refusals.{else-first, else-none, if-none}
 use Rattle.ic3.specs.Model.{Model}
 use Rattle.ic3.specs.Demands.{IsPath, listed, Excludes}
 use Rattle.ic3.proofs.Frames.{excludes-never, path-hit}
@@ -30,27 +32,18 @@ use Rattle.evidence.proofs.Paths.{path-within, path-decides, path-none}
 module _ (y : System) (xs : List ℕ) where
   -- ---- refusals
   -- the system's own come first
-  refused-system : (r : ℕ) → refusalOf y ≡ suc r → refused y xs ≡ suc r
-  unfolding refused
-  refused-system r e = rw (e, refused)
-
   pub number-refused : (r : ℕ) → r ≡ refusalOf y → (r ≡ 0 → ⊥) → r ≡ refused y xs
-  number-refused zero e f = absurd (f refl)
-  number-refused (suc r) e f = sym (refused-system r (sym e))
+  unfolding refused
+  number-refused r = else-first r (refusalOf y) _
 
-  pub refused-states : (t : Bool) → refusalOf y ≡ 0 → each (λ x. ltb x (2 ^ y .n)) xs ≡ t
-      → refused y xs ≡ (elim t as (λ b. ℕ) [ true ↦ 0 | false ↦ 7 ])
+  pub refused-states : (t : Bool) → refusalOf y ≡ 0 → each (λ x. ltb x (2 ^ y .n)) xs ≡ t → refused y xs ≡ 7 if not t
   unfolding refused
   refused-states t e f = rw (e, refused) (rw f)
 
   pub refused-none : refused y xs ≡ 0 → (refusalOf y ≡ 0) × (each (λ x. ltb x (2 ^ y .n)) xs ≡ true)
   unfolding refused
-  refused-none e = pick (refusalOf y) (each (λ x. ltb x (2 ^ y .n)) xs) e
-    where
-      pick : (r : ℕ) (b : Bool) → _≡_ {A = ℕ} (elim r [ zero ↦ elim b [ true ↦ 0 | false ↦ 7 ] | suc q ↦ suc q ]) 0 → (r ≡ 0) × (b ≡ true)
-      pick zero true g = (refl, refl)
-      pick zero false g = absurd (omega arith)
-      pick (suc r) b g = absurd (omega arith)
+  refused-none e = let n = else-none (refusalOf y) (7 if not (each (λ x. ltb x (2 ^ y .n)) xs)) e in
+      (n .0, not-false _ (if-none 6 _ (n .1)))
 
   -- a list that is not refused lists states
   abbrev Within : Type 0

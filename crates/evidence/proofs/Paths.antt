@@ -10,9 +10,10 @@ use borrow.Author.Tests.{eqb-true, eq-eqb}
 use lib.Dec.{eqb}
 use lib.ListN.{length, getD, drop, drop-of-length-le}
 use lib.Seq.{drop-cons}
+use Rattle.base.proofs.Tests.{test, clash}
+use Rattle.base.proofs.Lists.{next-two}
 use Rattle.ic3.specs.Model.{Model}
 use Rattle.ic3.specs.Demands.{Leads, IsPath, listed}
-use Rattle.ic3.proofs.Tests.{test, clash}
 use Rattle.evidence.specs.Check.{leadsOn, pathOf, questionsOf}
 use Rattle.evidence.specs.declared.Checked.the-variants.{Yes, No}
 use Rattle.evidence.proofs.Excluding.{Decides}
@@ -102,17 +103,14 @@ module _ (M : Model) where
 
 -- as a walk tests: from index i on, a step that is none decides, a step is passed, and the last state is tested
 module _ (step : ℕ → ℕ → Bool) (bad : ℕ → Bool) (l : List ℕ) (i : ℕ) where
-  next-two : i + 1 < length l → drop i l ≡ getD l i 0 ∷ (getD l (i + 1) 0 ∷ drop (i + 1 + 1) l)
-  next-two h = rw (drop-cons l i 0 (omega arith), ← add-one i, drop-cons l (i + 1) 0 h, ← add-one (i + 1))
-
   pub leads-stops : i + 1 < length l → step (getD l i 0) (getD l (i + 1) 0) ≡ false → leadsOn step bad (drop i l) ≡ false
   unfolding leadsOn
-  leads-stops h e = rw (next-two h) (rw (e, leadsOn))
+  leads-stops h e = rw (next-two l i h) (rw (e, leadsOn))
 
   pub leads-passes : i + 1 < length l → step (getD l i 0) (getD l (i + 1) 0) ≡ true
       → leadsOn step bad (drop i l) ≡ leadsOn step bad (drop (i + 1) l)
   unfolding leadsOn
-  leads-passes h e = rw (next-two h, drop-cons l (i + 1) 0 h, ← add-one (i + 1)) (rw (e, leadsOn))
+  leads-passes h e = rw (next-two l i h, drop-cons l (i + 1) 0 h, ← add-one (i + 1)) (rw (e, leadsOn))
 
   pub leads-ends : i < length l → length l ≤ i + 1 → leadsOn step bad (drop i l) ≡ bad (getD l i 0)
   unfolding leadsOn

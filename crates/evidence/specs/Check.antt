@@ -4,6 +4,7 @@ use mathlib.Core.Bool.{Bool, true, false, not, _&&_}
 use mathlib.Core.List.{List, [], _∷_}
 use mathlib.Core.Option.{Option, none, some}
 use lib.Dec.{ltb}
+use Rattle.base.specs.Refusals.{_if_, _else_}
 use Rattle.ic3.specs.Model.{Model, least}
 use Rattle.ic3.specs.Demands.{listed}
 use Rattle.system.specs.System.{System, model, refusalOf}
@@ -28,7 +29,7 @@ each p (x ∷ xs) = elim (p x) [ true ↦ each p xs | false ↦ false ]
 
 -- The refusals in the order 1, 2, 3, 7; 0 if there is none. Refusal 7: some listed state is not below 2^n.
 unfoldable pub refused : System → List ℕ → ℕ
-refused y xs = elim (refusalOf y) [ zero ↦ elim (each (λ x. ltb x (2 ^ y .n)) xs) [ true ↦ 0 | false ↦ 7 ] | suc r ↦ suc r ]
+refused y xs = refusalOf y else 7 if not (each (λ x. ltb x (2 ^ y .n)) xs)
 
 -- the question of the check: the least state below `size` outside the list that passes a test
 unfoldable pub outside : ℕ → List ℕ → (ℕ → Bool) → Option ℕ

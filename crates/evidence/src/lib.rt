@@ -5,8 +5,7 @@ ghost use Prim.Native.Nat.{_^_, _≤_, _<_};
 ghost use lib.Dec.{ltb};
 ghost use lib.ListN.{length};
 ghost use Rattle.question.specs.Question.{answered};
-ghost use Rattle.system.specs.System.{listTrue, word};
-ghost use Rattle.call.specs.Promise.{systemOf};
+ghost use Rattle.system.specs.System.{listTrue, word, systemOf};
 ghost use Rattle.evidence.specs.Check.{each, refused, outside, closedFrom, leadsOn};
 ghost use Rattle.evidence.specs.Promise.{ExcludedChecked, PathChecked};
 

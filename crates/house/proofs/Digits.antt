@@ -9,8 +9,7 @@ use native.Mathlib.Omega.{arith}
 use borrow.Author.Tests.{leb-true, le-leb, lt-leb}
 use lib.Dec.{leb}
 use lib.ListN.{getD}
-use Rattle.ic3.proofs.Tests.{test, both}
-use Rattle.masks.proofs.Bits.{eq-or-ne}
+use Rattle.base.proofs.Tests.{test, both, eq-or-ne}
 use Rattle.house.specs.Text.{digit}
 use Rattle.house.specs.Lent.{byteAt}
 

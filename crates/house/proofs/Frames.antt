@@ -11,7 +11,8 @@ use borrow.Author.Tests.{ltb-true, eqb-true, lt-ltb, eq-eqb}
 use lib.Dec.{eqb, ltb}
 use lib.ListN.{length, getD, take, drop}
 use lib.Seq.{drop-cons}
-use Rattle.ic3.proofs.Tests.{test, both}
+use Rattle.base.proofs.Tests.{test, both}
+use Rattle.base.proofs.Lists.{next-two}
 use Rattle.house.specs.Text.{digit, ahead, bytes}
 use Rattle.house.specs.Lent.{byteAt, frameAt}
 use Rattle.house.proofs.Digits.{AllDigits}
@@ -48,13 +49,10 @@ module _ (text : List ℕ) where
   take-one : (i : ℕ) → i < length text → take 1 (drop i text) ≡ getD text i 0 ∷ []
   take-one i h = rw (drop-cons text i 0 h)
 
-  next-two : (i : ℕ) → i + 1 < length text → drop i text ≡ getD text i 0 ∷ (getD text (i + 1) 0 ∷ drop (i + 1 + 1) text)
-  next-two i h = rw (drop-cons text i 0 (omega arith), ← add-one i, drop-cons text (i + 1) 0 h, ← add-one (i + 1))
-
   take-two : (i n : ℕ) → i + 1 < length text → take (suc (suc n)) (drop i text) ≡ getD text i 0 ∷ (getD text (i + 1) 0 ∷ take n (drop (i + 2) text))
   take-two i n h =
       let e : i + 1 + 1 ≡ i + 2 = omega arith in
-      ap (take (suc (suc n))) (rw e at (next-two i h))
+      ap (take (suc (suc n))) (rw e at (next-two text i h))
 
   -- pairs of digits with a line feed
   pub frame-whole : (count i : ℕ) → i + 2 * count < length text → AllDigits text i (2 * count)

@@ -9,8 +9,7 @@ use borrow.Author.Tests.{eq-eqb, ne-eqb}
 use lib.Dec.{eqb}
 use lib.ListN.{length, getD, take, drop, length-drop}
 use lib.Seq.{getD-drop, drop-drop}
-use Rattle.ic3.proofs.Tests.{test}
-use Rattle.masks.proofs.Bits.{eq-or-ne}
+use Rattle.base.proofs.Tests.{test, eq-or-ne}
 use Rattle.house.specs.Text.{before, lines}
 use Rattle.house.specs.Lent.{LineAt}
 

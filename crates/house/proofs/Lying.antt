@@ -1,34 +1,17 @@
--- A list in front of a store: all behind it is zero. Two masks that are written behind it, where there is room, make it a list of two masks more.
--- Assumes nothing.
+-- Two masks that are written behind the list in front of a store, where there is room, make it a list of two masks more. Assumes nothing.
 use Prim.Native.Nat.{ℕ, suc, _+_, _-_, _≤_, _<_}
 use mathlib.Core.Bool.{Bool, true, false}
 use mathlib.Core.List.{List, [], _∷_, _++_, append-assoc}
 use mathlib.Core.Path.{_≡_, refl, sym, ap, _∙_}
 use native.Mathlib.Omega.{arith}
 use borrow.Author.Tests.{le-leb, lt-leb}
-use lib.ListN.{length, take, set, replicate, length-append, length-set, length-replicate}
-use lib.Seq.{length-take-le, append-snoc, set-at, take-at}
-use Rattle.ic3.proofs.Tests.{clash}
-use Rattle.call.specs.Call.{over}
-use Rattle.call.proofs.Over.{over-none}
+use lib.ListN.{length, take, set, replicate, length-append, length-set}
+use lib.Seq.{length-take-le, append-snoc, set-at}
+use Rattle.base.proofs.Tests.{clash}
+use Rattle.stores.specs.Over.{over, Lies}
+use Rattle.stores.proofs.Lying.{lies, lies-take}
 use Rattle.house.specs.File.{hasRoom}
-use Rattle.house.specs.Lent.{Lies, PutAs}
-
--- a list with zeros behind it lies in the store
-module _ (front : List ℕ) (k count : ℕ) (store : List ℕ) (e : store ≡ front ++ replicate k 0) (l : length front ≡ count) where
-  lies-take : take count store ≡ front
-  lies-take = rw e (take-at front (replicate k 0) count l)
-
-  lies : Lies count store
-  unfolding over
-  lies =
-      let n : length store ≡ count + k = ap length e ∙ (rw (length-append, length-replicate, l)) in
-      let z : length store - count ≡ k = omega arith in
-      record { fits = omega arith; rest = rw (lies-take, l, z) e }
-
--- the empty list
-pub lies-none : (store : List ℕ) → Lies 0 (over [] store)
-lies-none store = lies [] (length store) 0 (over [] store) (sym (over-none store)) refl
+use Rattle.house.specs.Lent.{PutAs}
 
 -- two masks behind a front
 two-more : (front : List ℕ) (k count ones zeros : ℕ) → length front ≡ count

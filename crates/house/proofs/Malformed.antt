@@ -9,7 +9,7 @@ use borrow.Author.Tests.{eqb-true, eqb-false, ltb-true, ltb-false, lt-ltb, eq-eq
 use lib.Dec.{eqb, ltb}
 use lib.ListN.{length, getD, take, drop, length-drop}
 use lib.Seq.{getD-take, getD-drop, length-take-le}
-use Rattle.ic3.proofs.Tests.{test}
+use Rattle.base.proofs.Tests.{test}
 use Rattle.house.specs.Text.{bytes}
 use Rattle.house.specs.File.{Rooms, Reading, refuse, lineTaken}
 use Rattle.house.specs.Lent.{byteAt, FrameAt}

@@ -6,7 +6,7 @@ use mathlib.Core.Path.{_≡_, refl}
 use native.Mathlib.Omega.{arith}
 use borrow.Author.Tests.{le-leb, lt-leb, eqb-true, eqb-false, eq-eqb, ne-eqb}
 use lib.Dec.{eqb, leb}
-use Rattle.ic3.proofs.Tests.{test}
+use Rattle.base.proofs.Tests.{test}
 use Rattle.house.specs.File.{inPlace, width, lengthFor}
 use Rattle.house.proofs.Digits.{outside}
 

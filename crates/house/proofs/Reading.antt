@@ -5,13 +5,13 @@ use mathlib.Core.List.{List, []}
 use mathlib.Core.Path.{_≡_, refl, sym, ap, _∙_}
 use native.Mathlib.Omega.{arith}
 use lib.ListN.{length, replicate}
-use Rattle.call.specs.Call.{over}
-use Rattle.call.proofs.Over.{over-length, over-none}
+use Rattle.stores.proofs.Over.{over-length, over-none}
+use Rattle.stores.specs.Over.{over}
 use Rattle.house.specs.File.{Said, file, refused, said}
 use Rattle.house.specs.Promise.{Lists, lists, roomsOf, filled, Result, resultOf, Reads}
 use Rattle.house.specs.Lent.{Lie, Same, Took}
 use Rattle.house.specs.declared.House.{House}
-use Rattle.house.proofs.Lying.{lies-none}
+use Rattle.stores.proofs.Lying.{lies-none}
 use Rattle.house.proofs.Taking.{rooms-same, same-then}
 
 -- ---- clearing

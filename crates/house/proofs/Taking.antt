@@ -8,7 +8,7 @@ use native.Mathlib.Omega.{arith}
 use borrow.Author.Tests.{eq-eqb, ne-eqb}
 use lib.ListN.{length, take, drop, drop-of-length-le}
 use lib.Seq.{length-take-le}
-use Rattle.call.proofs.Over.{over-same}
+use Rattle.stores.proofs.Over.{over-same}
 use Rattle.house.specs.Text.{lines}
 use Rattle.house.specs.File.{Rooms, Reading, Taken, on, refuse, lineTaken, Said, file, refused, readLines, said}
 use Rattle.house.specs.Promise.{Lists, lists, roomsOf, filled, resultOf}

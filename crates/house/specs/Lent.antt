@@ -6,7 +6,7 @@ use mathlib.Core.Option.{some}
 use mathlib.Core.Path.{_≡_}
 use lib.Dec.{eqb, ltb, leb}
 use lib.ListN.{length, getD, take, drop}
-use Rattle.call.specs.Call.{over}
+use Rattle.stores.specs.Over.{Lies}
 use Rattle.house.specs.Text.{lines, digit, bytes}
 use Rattle.house.specs.File.{Rooms, Reading, Taken, on, refuse, roomFor, withClause, lineTaken, said}
 use Rattle.house.specs.Promise.{Lists, roomsOf, resultOf}
@@ -69,11 +69,6 @@ unfoldable pub Says : List ℕ → ℕ → Line → Type 0
 Says line stage said = (rooms : Rooms) (r : Reading) → r .stage ≡ stage → lineTaken rooms r line ≡ takenAs rooms r said
 
 -- ---- what was read
--- the first `count` numbers of a store are a list, and all behind it is zero
-pub record Lies (count : ℕ) (store : List ℕ) : Type 0 where
-  pub fits : count ≤ length store
-  pub rest : store ≡ over (take count store) store
-
 -- two masks more, if there is room
 pub record PutAs (store : List ℕ) (count ones zeros : ℕ) (done : Bool) (store' : List ℕ) : Type 0 where
   pub room : done ≡ leb (count + 2) (length store)

@@ -3,7 +3,7 @@ use Prim.Native.Nat.{ℕ}
 use mathlib.Core.List.{List, []}
 use mathlib.Core.Path.{_≡_}
 use lib.ListN.{length}
-use Rattle.call.specs.Call.{over}
+use Rattle.stores.specs.Over.{over}
 use Rattle.house.specs.File.{Rooms, Said, file, refused, said}
 use Rattle.house.specs.declared.House.{House}
 

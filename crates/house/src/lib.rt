@@ -3,10 +3,11 @@ ghost use mathlib.Core.Path.{_≡_};
 ghost use mathlib.Core.List.{[]};
 ghost use Prim.Native.Nat.{_+_, _*_, _≤_, _<_};
 ghost use lib.ListN.{length, take, drop};
+ghost use Rattle.stores.specs.Over.{Lies};
 ghost use Rattle.house.specs.Text.{digit, sum, number};
 ghost use Rattle.house.specs.File.{inPlace, width, lengthFor};
 ghost use Rattle.house.specs.Promise.{lists, filled, Reads};
-ghost use Rattle.house.specs.Lent.{LineAt, Within, byteAt, frameAt, NumberAt, FrameAt, Says, Lies, PutAs, Lie, oneMore, Enters, Takes, Took};
+ghost use Rattle.house.specs.Lent.{LineAt, Within, byteAt, frameAt, NumberAt, FrameAt, Says, PutAs, Lie, oneMore, Enters, Takes, Took};
 ghost use Rattle.house.specs.declared.Line.the-variants.{Clause};
 
 // With the number 0, n and the counts of masks; with a refusal, its line, and all else 0.
@@ -374,9 +375,9 @@ fn take_lines(text: &[u8], at: usize, start: &mut [u64], step: &mut [u64], bad: 
 fn clear_stores(start: &mut [u64], step: &mut [u64], bad: &mut [u64])
     ensures { λ _. ⌜ lists (now (start .exit)) (now (step .exit)) (now (bad .exit)) ≡ filled (lists (now (start .entry)) (now (step .entry)) (now (bad .entry))) [] [] [] ⌝ }
 {
-    call::clear(start);
-    call::clear(step);
-    call::clear(bad);
+    stores::clear(start);
+    stores::clear(step);
+    stores::clear(bad);
 }
 
 // The text from this index on. After a refusal the stores are all zero; else all behind each list is zero.

@@ -9,11 +9,11 @@ use native.Mathlib.Omega.{arith}
 use borrow.Author.Tests.{eqb-true, eqb-false, eq-eqb, ne-eqb}
 use lib.Dec.{eqb, leb}
 use lib.ListN.{length}
+use Rattle.base.proofs.Tests.{test, both}
 use Rattle.ic3.specs.Model.{Model, Least}
 use Rattle.ic3.specs.Search.{Entry, levelOf, put, states, R, raise, wanted, Move, tested}
 use Rattle.ic3.specs.Demands.{listed}
 use Rattle.ic3.specs.Exact.{exact}
-use Rattle.ic3.proofs.Tests.{test, both}
 use Rattle.ic3.proofs.Store.{level-put, level-put-other, Tidy, Stored, stored-put, put-old, total, put-total, listed-none, listed-other, states-listed, states-split, states-fall, above-put}
 use Rattle.ic3.proofs.Frames.{inside-level}
 use Rattle.ic3.proofs.Round.{Lands, tested-lands, empty-level, level-head, taken-length}

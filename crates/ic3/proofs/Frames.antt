@@ -11,10 +11,10 @@ use native.Mathlib.Omega.{arith}
 use borrow.Author.Tests.{leb-false, ltb-true, ltb-false, eqb-true, eqb-false, lt-ltb, le-leb, lt-leb}
 use lib.Dec.{eqb, leb}
 use lib.ListN.{length}
+use Rattle.base.proofs.Tests.{test, clash}
 use Rattle.ic3.specs.Model.{Model}
 use Rattle.ic3.specs.Search.{R}
 use Rattle.ic3.specs.Demands.{Reach, starts, steps, Leads, IsPath, Excludes}
-use Rattle.ic3.proofs.Tests.{test, clash}
 
 module _ (M : Model) where
   pub record Frames (N : ℕ) (f : ℕ → ℕ) : Type 0 where

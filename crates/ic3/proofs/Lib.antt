@@ -1,5 +1,4 @@
 -- The root of the theorems, in the order in which they lean on one another. Nothing else leans on Sentences, Canonical and Chain.
-pub mod Tests
 pub mod Least
 pub mod Store
 pub mod Frames

@@ -5,10 +5,10 @@ use mathlib.Core.List.{List, [], _∷_}
 use mathlib.Core.Path.{_≡_, refl}
 use native.Mathlib.Omega.{arith}
 use lib.ListN.{length}
+use Rattle.base.proofs.Tests.{clash}
 use Rattle.ic3.specs.Model.{Model}
 use Rattle.ic3.specs.Search.{Entry, look, Config, at, Verdict, safe, unsafe, noRoom, spent, Move, go, stop, next, Ending, run, searched}
 use Rattle.ic3.specs.Demands.{Reach, starts, steps, IsPath, Demand-2, Doomed, Number, Answered}
-use Rattle.ic3.proofs.Tests.{clash}
 use Rattle.ic3.proofs.Frames.{leads-state}
 use Rattle.ic3.proofs.Sound.{Duty, demand-2}
 use Rattle.ic3.proofs.Bound.{bound}

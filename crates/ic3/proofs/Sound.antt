@@ -10,10 +10,10 @@ use native.Mathlib.Omega.{arith}
 use borrow.Author.Tests.{leb-true, leb-false, lt-leb, eqb-true, eqb-false}
 use lib.Dec.{eqb, leb}
 use lib.ListN.{length}
+use Rattle.base.proofs.Tests.{test, clash, both, first-false}
 use Rattle.ic3.specs.Model.{Model, least, Least, Answers}
 use Rattle.ic3.specs.Search.{Entry, levelOf, put, states, R, Phase, look, settle, raise, Config, at, wanted, Verdict, spent, Move, go, stop, settled, tested, found, deeper, react, next, searched}
 use Rattle.ic3.specs.Demands.{Leads, listed, Safe, Demand-2, Doomed}
-use Rattle.ic3.proofs.Tests.{test, clash, both, first-false}
 use Rattle.ic3.proofs.Least.{least-answers}
 use Rattle.ic3.proofs.Store.{level-put, level-put-other, Tidy, put-tidy, Stored, stored-put, states-listed}
 use Rattle.ic3.proofs.Frames.{Frames, leads-state, path-hit, inside-level, frames-none, hit-late, leads-no-start, frames-grown, frames-raised, gap-excludes, excludes-never}

@@ -9,9 +9,9 @@ use native.Mathlib.Nat.{mul-suc}
 use borrow.Author.Tests.{leb-true, leb-false, eqb-true, eqb-false, eq-eqb, ne-eqb, le-leb, lt-leb}
 use lib.Dec.{eqb, leb, ltb}
 use lib.ListN.{length}
+use Rattle.base.proofs.Tests.{test, clash}
 use Rattle.ic3.specs.Search.{Entry, levelOf, put, states, fits}
 use Rattle.ic3.specs.Demands.{listed, Distinct}
-use Rattle.ic3.proofs.Tests.{test, clash}
 
 -- ---- levels
 pub level-put : (st : List Entry) (s k : ℕ) → levelOf (put st s k) s ≡ k

@@ -4,24 +4,13 @@
 use mathlib.Core.Path.{_≡_, refl, sym, ap, _∙_}
 use mathlib.Core.Logic.{_⊎_, inl, inr, ⊎-elim}
 use Prim.Native.Nat.{ℕ, suc, _-_, _/_, _%_, _^_, _≤_, _<_}
-use native.Mathlib.Nat.{div-one, zero-div, div-eq-of-lt, lt-of-lt-of-le, eq-zero-or-pos, eq-or-lt-of-le}
+use native.Mathlib.Nat.{div-one, zero-div, div-eq-of-lt, lt-of-lt-of-le, eq-zero-or-pos}
 use native.Mathlib.Numerals.{one-add}
 use native.Mathlib.Omega.{arith}
 use lib.Arith.{bin-ind}
 use lib.Pow.{shr-shr, pow-mono}
+use Rattle.base.proofs.Tests.{lt-or-ge, eq-or-ne}
 use Rattle.masks.specs.Bit.{bit}
-
--- a position is below another or not
-pub lt-or-ge : (a b : ℕ) → (a < b) ⊎ (b ≤ a)
-lt-or-ge a b = ⊎-elim (λ e. inr (omega arith)) (λ p. inl (omega arith)) (eq-zero-or-pos (b - a))
-
--- a position is another or not
-pub eq-or-ne : (a b : ℕ) → (a ≡ b) ⊎ (a ≡ b → ⊥)
-eq-or-ne a b =
-    ⊎-elim
-    (λ l. inr (omega arith))
-    (λ g. ⊎-elim (λ e. inl (sym e)) (λ l. inr (omega arith)) (eq-or-lt-of-le g))
-    (lt-or-ge a b)
 
 -- a bit is at most 1
 pub bit-le : (m i : ℕ) → bit m i ≤ 1

@@ -7,8 +7,9 @@ use native.Mathlib.Nat.{pow-suc}
 use native.Mathlib.Omega.{arith}
 use lib.Bits.{bitAnd, bitOr, and-shr, and-step, or-shr, or-step}
 use lib.Pow.{pow-pos, pow-mono}
+use Rattle.base.proofs.Tests.{lt-or-ge}
 use Rattle.masks.specs.Bit.{bit}
-use Rattle.masks.proofs.Bits.{lt-or-ge, bit-zero, bit-suc, bit-of-zero, bit-past, at-bit}
+use Rattle.masks.proofs.Bits.{bit-zero, bit-suc, bit-of-zero, bit-past, at-bit}
 
 -- of three bits, c is the and of a and b
 abbrev pub Meet : ℕ → ℕ → ℕ → Type 0

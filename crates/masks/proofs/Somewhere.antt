@@ -5,8 +5,8 @@ use mathlib.Core.Logic.{_↔_, ⊎-elim}
 use mathlib.Core.Bool.{Bool, true, false, _||_, or-assoc, or-comm, true≢false}
 use Prim.Native.Nat.{ℕ, zero, suc, _<_}
 use native.Mathlib.Omega.{arith}
+use Rattle.base.proofs.Tests.{eq-or-ne}
 use Rattle.masks.specs.Bit.{somewhere}
-use Rattle.masks.proofs.Bits.{eq-or-ne}
 
 -- neither of two tests passes exactly if each fails
 pub or-fails : (a b : Bool) → ((a || b) ≡ false) ↔ ((a ≡ false) × (b ≡ false))

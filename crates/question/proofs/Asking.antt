@@ -10,14 +10,14 @@ use mathlib.Core.Path.{_≡_, refl, sym, ap, _∙_}
 use native.Mathlib.Nat.{mod-lt, div-add-mod', lt-of-lt-of-le}
 use native.Mathlib.Omega.{arith}
 use lib.Pow.{pow-pos, pow-mono, shr-lt}
+use Rattle.base.proofs.Tests.{lt-or-ge, test}
 use Rattle.masks.specs.Bit.{bit}
-use Rattle.masks.proofs.Bits.{bit-le, bit-of-zero, bit-past, at-bit, bits-below, lt-or-ge}
+use Rattle.masks.proofs.Bits.{bit-le, bit-of-zero, bit-past, at-bit, bits-below}
 use Rattle.masks.proofs.Operations.{beyond-none, beyond-all}
 use Rattle.masks.proofs.Halves.{bit-low, bit-high, bit-mod, bit-div}
 use Rattle.masks.proofs.Order.{width-bits}
 use Rattle.ic3.specs.Model.{least}
 use Rattle.ic3.proofs.Least.{least-is}
-use Rattle.ic3.proofs.Tests.{test}
 use Rattle.question.specs.Question.{answered}
 use Rattle.question.specs.Reason.{stateOf, fulfils, Agree, Among, Why, LeastWord, asked}
 use Rattle.question.specs.declared.Answer.{Answer}

@@ -8,8 +8,8 @@ use mathlib.Core.Path.{_≡_, sym, ap, _∙_}
 use native.Mathlib.Nat.{add-mul-mod-self-left, mod-eq-of-lt, lt-of-lt-of-le}
 use native.Mathlib.Omega.{arith}
 use lib.Pow.{pow-mono}
+use Rattle.base.proofs.Tests.{lt-or-ge}
 use Rattle.masks.specs.Bit.{somewhere}
-use Rattle.masks.proofs.Bits.{lt-or-ge}
 use Rattle.masks.proofs.Halves.{bit-low, bit-high, bit-mod}
 use Rattle.ic3.proofs.Least.{least-same}
 use Rattle.system.specs.System.{listTrue, word}

@@ -10,8 +10,9 @@ use native.Mathlib.Nat.{lt-of-le-of-lt}
 use native.Mathlib.Omega.{arith}
 use lib.Bits.{bitAnd, bitOr, and-le-l, or-lt}
 use lib.Count.{trailingZeros}
+use Rattle.base.proofs.Tests.{eq-or-ne}
 use Rattle.masks.specs.Bit.{bit}
-use Rattle.masks.proofs.Bits.{eq-or-ne, bit-le, bit-cases, bit-of-zero, bit-within, at-bit, bits-ext, bits-at}
+use Rattle.masks.proofs.Bits.{bit-le, bit-cases, bit-of-zero, bit-within, at-bit, bits-ext, bits-at}
 use Rattle.masks.proofs.Operations.{meet, join, less}
 use Rattle.masks.proofs.OneBit.{pow-here, pow-other}
 use Rattle.masks.proofs.Ends.{lowest-end}

@@ -8,10 +8,10 @@ use native.Mathlib.Nat.{min-eq-left}
 use borrow.Author.Tests.{le-leb}
 use native.Mathlib.Omega.{arith}
 use lib.Dec.{eqb}
+use Rattle.base.proofs.Tests.{test}
 use Rattle.ic3.specs.Model.{least}
 use Rattle.ic3.specs.Demands.{listed}
 use Rattle.ic3.proofs.Least.{least-same}
-use Rattle.ic3.proofs.Tests.{test}
 use Rattle.system.specs.System.{listTrue, word}
 use Rattle.question.specs.Question.{excluded, inside, badIn, stepIn}
 use Rattle.question.proofs.Model.{excluded-first}

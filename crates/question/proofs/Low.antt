@@ -7,8 +7,9 @@ use mathlib.Core.Bool.{Bool}
 use Prim.Native.Nat.{ℕ, _+_, _-_, _%_, _^_, _≤_, _<_}
 use native.Mathlib.Omega.{arith}
 use lib.Bits.{bitAnd, bitOr}
+use Rattle.base.proofs.Tests.{lt-or-ge, eq-or-ne}
 use Rattle.masks.specs.Bit.{bit}
-use Rattle.masks.proofs.Bits.{lt-or-ge, eq-or-ne, bit-past, at-bit, bits-ext}
+use Rattle.masks.proofs.Bits.{bit-past, at-bit, bits-ext}
 use Rattle.masks.proofs.Operations.{meet, join, beyond-none, beyond-all}
 use Rattle.masks.proofs.Halves.{bit-mod}
 use Rattle.question.specs.Reason.{stateOf, Agree, Among, Why, Forces}

@@ -10,13 +10,13 @@ use native.Mathlib.Omega.{arith}
 use borrow.Author.Tests.{lt-ltb, le-ltb, lt-leb, leb-true, leb-false, eqb-true}
 use lib.Dec.{eqb, ltb, leb}
 use lib.ListN.{length, getD, drop}
+use Rattle.base.proofs.Tests.{test}
 use Rattle.masks.specs.Bit.{somewhere}
 use Rattle.masks.proofs.Somewhere.{somewhere-first}
 use Rattle.ic3.specs.Model.{least}
 use Rattle.ic3.specs.Search.{levelOf, R, Phase, look, wanted}
 use Rattle.ic3.proofs.Least.{least-same}
 use Rattle.ic3.proofs.Store.{Tidy}
-use Rattle.ic3.proofs.Tests.{test}
 use Rattle.system.specs.System.{System, model}
 use Rattle.question.specs.Question.{excluded, inside, badIn, stepIn}
 use Rattle.question.specs.Stored.{stored}

@@ -11,12 +11,12 @@ use lib.Bits.{bitAnd, bitOr, or-lt}
 use lib.Count.{ones, ones-le}
 use lib.Dec.{eqb}
 use lib.Pow.{pow-lt}
+use Rattle.base.proofs.Tests.{eq-or-ne, test}
 use Rattle.masks.specs.Bit.{bit}
-use Rattle.masks.proofs.Bits.{bit-le, eq-or-ne}
+use Rattle.masks.proofs.Bits.{bit-le}
 use Rattle.masks.proofs.Operations.{join, less}
 use Rattle.masks.proofs.OneBit.{pow-here, pow-other, and-pow}
 use Rattle.masks.proofs.Count.{ones-or}
-use Rattle.ic3.proofs.Tests.{test}
 use Rattle.question.specs.Reason.{Agree, Among, Why, resolved}
 use Rattle.question.proofs.Values.{Choice, x-other, value-here, value-other, other, other-here}
 use Rattle.question.proofs.Agreement.{agree-at, agree-by, among-at, among-by}

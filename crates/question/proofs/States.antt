@@ -12,11 +12,11 @@ use lib.Dec.{eqb, leb}
 use lib.ListN.{length, getD, List·getD-eq-default}
 use lib.Seq.{drop-cons}
 use lib.Pow.{pow-pos}
+use Rattle.base.proofs.Tests.{clash}
 use Rattle.masks.proofs.Bits.{bit-le, bits-below}
 use Rattle.masks.proofs.Operations.{flip}
 use Rattle.masks.proofs.Halves.{bit-mod}
 use Rattle.masks.proofs.Somewhere.{somewhere-false}
-use Rattle.ic3.proofs.Tests.{clash}
 use Rattle.system.specs.System.{clauseTrue, listTrue}
 use Rattle.system.proofs.Clause.{clause-literals}
 use Rattle.question.specs.Question.{excluded}

@@ -8,12 +8,12 @@ use mathlib.Core.Logic.{_⊎_, inl, inr, ⊎-elim}
 use mathlib.Core.Path.{_≡_, sym, _∙_}
 use native.Mathlib.Omega.{arith}
 use lib.Bits.{bitAnd, bitOr}
+use Rattle.base.proofs.Tests.{lt-or-ge, clash}
 use Rattle.masks.specs.Bit.{bit}
-use Rattle.masks.proofs.Bits.{bit-of-zero, bit-cases, bit-past, bits-below, lt-or-ge}
+use Rattle.masks.proofs.Bits.{bit-of-zero, bit-cases, bit-past, bits-below}
 use Rattle.masks.proofs.Operations.{flip, full}
 use Rattle.masks.proofs.OneBit.{pow-here, and-pow}
 use Rattle.masks.proofs.Order.{bit-order}
-use Rattle.ic3.proofs.Tests.{clash}
 use Rattle.question.specs.Reason.{Agree, Among, Why, Solved, TopOpen, Stands, Descends, LeastWord}
 use Rattle.question.specs.declared.Answer.the-variants.{State}
 use Rattle.question.specs.declared.Descent.{Descent}

@@ -7,9 +7,10 @@ use native.Mathlib.Omega.{arith}
 use lib.Dec.{leb}
 use lib.ListN.{length, getD, take, drop}
 use lib.Seq.{drop-cons, length-take-le}
+use Rattle.stores.proofs.Over.{over-same, over-front}
+use Rattle.stores.specs.Over.{over}
 use Rattle.ic3.specs.Search.{states}
-use Rattle.call.specs.Call.{Stores, says-nothing, result, over, leaves, ended}
-use Rattle.call.proofs.Over.{over-same, over-front}
+use Rattle.call.specs.Call.{Stores, says-nothing, result, leaves, ended}
 use Rattle.search.specs.Lent.{storeOf, part, verdictOf, Closes}
 use Rattle.search.specs.declared.End.{End}
 use Rattle.search.specs.declared.End.the-variants.{Safe, Unsafe}

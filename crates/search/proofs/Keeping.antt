@@ -11,8 +11,8 @@ use borrow.Author.Tests.{eqb-true, eqb-false, eq-eqb, ne-eqb, le-leb, lt-leb}
 use lib.Dec.{eqb}
 use lib.ListN.{length, getD, set}
 use lib.Seq.{getD-set-same, getD-set-other}
+use Rattle.base.proofs.Tests.{test}
 use Rattle.ic3.specs.Search.{Entry, look, settle, Config, at, noRoom, go, stop, put, settled, fits, kept}
-use Rattle.ic3.proofs.Tests.{test}
 use Rattle.search.specs.Lent.{window, storeOf, duties, Absent, FirstAt, KeptAs}
 use Rattle.search.specs.declared.Kept.the-variants.{At, Full}
 use Rattle.search.proofs.Windows.{window-length, window-apart, duties-more, duties-end}

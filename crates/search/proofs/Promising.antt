@@ -6,6 +6,7 @@ use mathlib.Core.List.{List, []}
 use mathlib.Core.Path.{_≡_, refl, sym, ap, _∙_}
 use native.Mathlib.Omega.{arith}
 use lib.ListN.{length}
+use Rattle.stores.proofs.Over.{over-same}
 use Rattle.ic3.specs.Search.{Verdict as Ending, safe, unsafe, noRoom, spent, searched}
 use Rattle.ic3.proofs.Fit.{FitsEnding, ending-fits}
 use Rattle.ic3.proofs.Bound.{demand-3}
@@ -20,7 +21,6 @@ use Rattle.call.specs.declared.Outcome.{Outcome}
 use Rattle.call.specs.declared.Verdict.{Verdict}
 use Rattle.call.specs.declared.Verdict.the-variants.{SafeBy, UnsafeBy, Neither}
 use Rattle.call.proofs.Call.{refused-system, refused-stores, refused-none, called-refused, called-searches, called-within, called-right, stores-fitting, Lengths}
-use Rattle.call.proofs.Over.{over-same}
 use Rattle.search.proofs.Closing.{part-length}
 
 -- ---- how a search ends

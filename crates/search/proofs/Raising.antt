@@ -10,8 +10,8 @@ use native.Mathlib.Numerals.{add-one}
 use borrow.Author.Tests.{eqb-true, eqb-false}
 use lib.Dec.{eqb}
 use lib.ListN.{getD, set, take}
+use Rattle.base.proofs.Tests.{test}
 use Rattle.ic3.specs.Search.{levelOf, states, raise, wanted, at, put, react, next}
-use Rattle.ic3.proofs.Tests.{test}
 use Rattle.ic3.proofs.Store.{Tidy, put-tidy}
 use Rattle.system.specs.System.{System, model}
 use Rattle.question.specs.Question.{stepIn}

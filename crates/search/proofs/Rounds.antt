@@ -10,8 +10,8 @@ use native.Mathlib.Numerals.{add-one}
 use borrow.Author.Tests.{eqb-true, eqb-false, eq-eqb, ne-eqb, ltb-true, ltb-false, lt-ltb, le-ltb}
 use lib.Dec.{eqb, leb, ltb}
 use lib.ListN.{getD}
+use Rattle.base.proofs.Tests.{test}
 use Rattle.ic3.specs.Search.{Entry, levelOf, states, look, raise, at, safe, go, stop, judge, round, tested}
-use Rattle.ic3.proofs.Tests.{test}
 use Rattle.ic3.proofs.Store.{Tidy}
 use Rattle.ic3.proofs.Round.{level-head}
 use Rattle.search.specs.Lent.{window, storeOf, roundFrom, Absent, FirstAt, LeastGap}

@@ -7,7 +7,7 @@ use native.Mathlib.Omega.{arith}
 use borrow.Author.Tests.{eqb-true, eqb-false}
 use lib.Dec.{eqb}
 use lib.ListN.{getD}
-use Rattle.ic3.proofs.Tests.{test}
+use Rattle.base.proofs.Tests.{test}
 use Rattle.search.specs.Lent.{Absent, FirstAt}
 
 -- ---- over a store

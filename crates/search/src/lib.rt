@@ -4,14 +4,14 @@ ghost use mathlib.Core.List.{List, []};
 ghost use Prim.Native.Nat.{ℕ, suc, _+_, _-_, _≤_, _<_};
 ghost use lib.Dec.{leb};
 ghost use lib.ListN.{length, getD, take};
+ghost use Rattle.stores.specs.Over.{over};
 ghost use Rattle.ic3.specs.Search.{put, states as statesOf, judge as judgeIn, found as foundIn, deeper as deeperIn, settled as settledIn, kept, next};
 ghost use Rattle.ic3.proofs.Store.{Tidy};
-ghost use Rattle.system.specs.System.{model};
+ghost use Rattle.system.specs.System.{model, systemOf};
 ghost use Rattle.question.specs.Question.{answered, badIn, stepIn};
-ghost use Rattle.call.specs.Call.{over};
 ghost use Rattle.search.specs.declared.Place.the-variants.{Look, Settle, Raise};
 ghost use Rattle.search.specs.Lent.{Asks, Lends, Ready, Moves, Ends, Placed, Bounded, storeOf, duties, configOf, moveOf, roundFrom, FirstAt, KeptAs, LeastGap, Closing, Closes};
-ghost use Rattle.call.specs.Promise.{systemOf, stores, Promised};
+ghost use Rattle.call.specs.Promise.{stores, Promised};
 
 // What the awaited question is asked for: step 2 (or 1); step 3 for the duty of level k + 1; step 4 at level i for entry j.
 enum Place {
@@ -479,9 +479,9 @@ fn finish(states: &mut [u64], levels: &mut [u32], path: &mut [u64], front: usize
         × (now (path .exit) ≡ over (take len (now (path .entry))) (now (path .entry)))
         ⌝ }
 {
-    call::clear_behind(states, front);
-    call::clear_levels(levels);
-    call::clear_behind(path, len);
+    stores::clear_behind(states, front);
+    stores::clear_levels(levels);
+    stores::clear_behind(path, len);
 }
 
 // The stores are left with the evidence alone.

@@ -3,11 +3,10 @@
 use mathlib.Core.Path.{_≡_, refl, ap}
 use mathlib.Core.Bool.{Bool, true, false}
 use mathlib.Core.List.{List, [], _∷_}
-use Prim.Native.Nat.{ℕ, suc, _+_, _≤_, _<_}
-use native.Mathlib.Numerals.{add-one}
+use Prim.Native.Nat.{ℕ, _+_, _≤_, _<_}
 use native.Mathlib.Omega.{arith}
 use lib.ListN.{length, getD, drop, length-drop}
-use lib.Seq.{drop-cons}
+use Rattle.base.proofs.Lists.{next-two}
 use Rattle.system.specs.System.{clauseTrue, listTrue}
 
 -- a pair at the front, with what its clause says
@@ -20,8 +19,8 @@ module _ (l : List ℕ) (i w : ℕ) where
   -- the clause at i stands before the rest
   next-pair : i + 1 < length l → drop i l ≡ getD l i 0 ∷ (getD l (i + 1) 0 ∷ drop (i + 2) l)
   next-pair h =
-      let e : i + 2 ≡ suc (i + 1) = omega arith in
-      rw (drop-cons l i 0 (omega arith), ← add-one i, drop-cons l (i + 1) 0 h, e)
+      let e : i + 1 + 1 ≡ i + 2 = omega arith in
+      rw e at (next-two l i h)
 
   -- a false clause decides
   pub list-stops : i + 1 < length l → clauseTrue (getD l i 0) (getD l (i + 1) 0) w ≡ false → listTrue (drop i l) w ≡ false

@@ -1,6 +1,6 @@
 -- The refusals, as the code finds them. A chain of `||` stops at its first true test. Refusal 3 walks a list: from index i on, a mask with a wrong
--- bit decides and any other is passed. The number is that of the first of three tests that is true. Assumes nothing.
-use mathlib.Core.Path.{_≡_, refl, sym, ap, ap₂, _∙_}
+-- bit decides and any other is passed. Assumes nothing.
+use mathlib.Core.Path.{_≡_, sym, ap, _∙_}
 use mathlib.Core.Bool.{Bool, true, false, _||_, and-false}
 use mathlib.Core.List.{List}
 use mathlib.Core.Logic.{_⊎_, ⊎-elim}
@@ -11,8 +11,10 @@ use borrow.Author.Tests.{lt-ltb, le-ltb, ltb-false, eqb-false, eq-eqb, ne-eqb}
 use lib.Dec.{eqb, ltb}
 use lib.ListN.{length, getD, drop, drop-of-length-le}
 use lib.Seq.{drop-cons}
+use Rattle.base.specs.Refusals.{_if_, _else_}
+use Rattle.base.proofs.Refusals.{else-none, if-none}
 use Rattle.masks.proofs.Somewhere.{or-fails}
-use Rattle.system.specs.System.{System, wrongSize, wrongCount, wrongBit, refusalOf}
+use Rattle.system.specs.System.{System, wrongSize, wrongCounts, wrongBit, wrongBits, refusalOf}
 
 -- ---- the first of the tests a, b and c that is true decides; p, q and r are what the code finds
 pub or-first : {a p : Bool} (b : Bool) → p ≡ a → p ≡ true → p ≡ (a || b)
@@ -71,30 +73,14 @@ size-right n e =
     let both = or-fails (eqb n 0) (ltb 32 n) .0 e in
     (omega (arith, eqb-false n 0 (both .0)), ltb-false 32 n (both .1))
 
--- the number of the first of the tests a, b and c that is true
-abbrev pub firstOf : Bool → Bool → Bool → ℕ
-firstOf a b c = elim a [ true ↦ 1 | false ↦ elim b [ true ↦ 2 | false ↦ elim c [ true ↦ 3 | false ↦ 0 ] ] ]
-
--- the refusal is that number, of the three tests over the whole system
-pub refusal-first : (y : System) {a b c : Bool} → wrongSize (y .n) ≡ a
-    → (wrongCount (y .start) || (wrongCount (y .step) || wrongCount (y .bad))) ≡ b
-    → (wrongBit (y .n) 0 (y .start) || (wrongBit (y .n) (y .n) (y .step) || wrongBit (y .n) 0 (y .bad))) ≡ c
-    → refusalOf y ≡ firstOf a b c
-unfolding refusalOf
-refusal-first y p q r =
-    ap₂ (λ (x : Bool) (z : ℕ). elim x as (λ y. ℕ) [ true ↦ 1 | false ↦ z ]) p
-    (ap₂ (λ (x : Bool) (z : ℕ). elim x as (λ y. ℕ) [ true ↦ 2 | false ↦ z ]) q
-    (ap (λ (x : Bool). elim x as (λ y. ℕ) [ true ↦ 3 | false ↦ 0 ]) r))
-
 -- a system that is not refused fails all three tests
 pub refusal-none : (y : System) → refusalOf y ≡ 0
-    → (wrongSize (y .n) ≡ false)
-    × ((wrongCount (y .start) || (wrongCount (y .step) || wrongCount (y .bad))) ≡ false)
-    × ((wrongBit (y .n) 0 (y .start) || (wrongBit (y .n) (y .n) (y .step) || wrongBit (y .n) 0 (y .bad))) ≡ false)
-refusal-none y e = none _ _ _ (sym (refusal-first y refl refl refl) ∙ e)
-  where
-    none : (a b c : Bool) → firstOf a b c ≡ 0 → (a ≡ false) × (b ≡ false) × (c ≡ false)
-    none true b c e = absurd (omega arith)
-    none false true c e = absurd (omega arith)
-    none false false true e = absurd (omega arith)
-    none false false false e = (refl, refl, refl)
+    → (wrongSize (y .n) ≡ false) × (wrongCounts (y .start) (y .step) (y .bad) ≡ false) × (wrongBits (y .n) (y .start) (y .step) (y .bad) ≡ false)
+unfolding refusalOf
+refusal-none y e =
+    let a = wrongSize (y .n) in
+    let b = wrongCounts (y .start) (y .step) (y .bad) in
+    let c = wrongBits (y .n) (y .start) (y .step) (y .bad) in
+    let first = else-none (1 if a) (2 if b else 3 if c) e in
+    let second = else-none (2 if b) (3 if c) (first .1) in
+    (if-none 0 a (first .0), if-none 1 b (second .0), if-none 2 c (second .1))

@@ -10,8 +10,9 @@ use native.Mathlib.Omega.{arith}
 use borrow.Author.Tests.{ltb-true, lt-ltb}
 use lib.Dec.{ltb}
 use lib.Pow.{pow-pos, shr-lt}
+use Rattle.base.proofs.Tests.{lt-or-ge}
 use Rattle.masks.specs.Bit.{bit}
-use Rattle.masks.proofs.Bits.{lt-or-ge, bit-le, bit-of-zero, bit-past}
+use Rattle.masks.proofs.Bits.{bit-le, bit-of-zero, bit-past}
 use Rattle.masks.proofs.Halves.{bit-low, bit-high, bit-mod, bit-div}
 use Rattle.masks.proofs.Order.{width-bits}
 use Rattle.system.specs.System.{System, clauseTrue, listTrue, word, model, wrongBit}

@@ -4,6 +4,7 @@ use mathlib.Core.Bool.{Bool, true, false, _&&_, _||_}
 use mathlib.Core.List.{List, [], _∷_}
 use lib.Dec.{eqb, ltb}
 use lib.ListN.{length}
+use Rattle.base.specs.Refusals.{_if_, _else_}
 use Rattle.masks.specs.Bit.{bit, somewhere}
 use Rattle.ic3.specs.Model.{Model}
 
@@ -14,6 +15,9 @@ pub record System : Type 0 where
   pub start : List ℕ
   pub step : List ℕ
   pub bad : List ℕ
+
+abbrev pub systemOf : ℕ → List ℕ → List ℕ → List ℕ → System
+systemOf n start step bad = record { n = n; start = start; step = step; bad = bad }
 
 -- the literals of a clause at position i: one of them is true of the word w
 unfoldable pub literalTrue : ℕ → ℕ → ℕ → ℕ → Bool
@@ -51,20 +55,21 @@ wrongSize n = eqb n 0 || ltb 32 n
 unfoldable pub wrongCount : List ℕ → Bool
 wrongCount l = eqb (length l % 2) 1 || ltb 4096 (length l / 2)
 
--- refusal 3: a clause uses a bit not below `low`, or a later bit not below `high`
+abbrev pub wrongCounts : List ℕ → List ℕ → List ℕ → Bool
+wrongCounts start step bad = wrongCount start || (wrongCount step || wrongCount bad)
+
+-- refusal 3: a clause uses a bit not below `low`, or a later bit not below `high`; start and bad use the low half only
 unfoldable pub wrongBit : ℕ → ℕ → List ℕ → Bool
 wrongBit low high [] = false
 wrongBit low high (x ∷ xs) =
     elim (ltb (x % 2 ^ 32) (2 ^ low) && ltb (x / 2 ^ 32) (2 ^ high)) [ true ↦ wrongBit low high xs | false ↦ true ]
 
--- The refusals in their order, each tested over all three lists before the next; 0 if there is none. I and B use the low half only.
+abbrev pub wrongBits : ℕ → List ℕ → List ℕ → List ℕ → Bool
+wrongBits n start step bad = wrongBit n 0 start || (wrongBit n n step || wrongBit n 0 bad)
+
+-- the refusals in their order, each tested over all three lists before the next; 0 if there is none
 unfoldable pub refusalOf : System → ℕ
 refusalOf y =
-    elim (wrongSize (y .n)) [
-      | true ↦ 1
-      | false ↦ elim (wrongCount (y .start) || (wrongCount (y .step) || wrongCount (y .bad))) [
-        | true ↦ 2
-        | false ↦
-            elim (wrongBit (y .n) 0 (y .start) || (wrongBit (y .n) (y .n) (y .step) || wrongBit (y .n) 0 (y .bad))) [ true ↦ 3 | false ↦ 0 ]
-      ]
-    ]
+    1 if wrongSize (y .n)
+    else 2 if wrongCounts (y .start) (y .step) (y .bad)
+    else 3 if wrongBits (y .n) (y .start) (y .step) (y .bad)

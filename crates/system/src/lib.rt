@@ -2,8 +2,7 @@
 // bit. Each public function takes every argument: a list with an odd count of masks too, of which `refusal` says that it is wrong.
 ghost use mathlib.Core.Path.{_≡_};
 ghost use Prim.Native.Nat.{_≤_};
-ghost use mathlib.Core.Bool.{_||_};
-ghost use Rattle.system.specs.System.{clauseTrue, listTrue, wrongSize, wrongCount, wrongBit, refusalOf};
+ghost use Rattle.system.specs.System.{clauseTrue, listTrue, wrongSize, wrongCount, wrongCounts, wrongBit, wrongBits, systemOf, refusalOf};
 
 // Whether the clause is true of the word: a bit wanted 1 is 1, or a bit wanted 0 is 0.
 pub fn clause_true(ones: u64, zeros: u64, word: u64) -> bool
@@ -45,7 +44,7 @@ fn wrong_count(list: &[u64]) -> bool
 
 // Refusal 2. The parentheses are the definition's.
 fn wrong_counts(start: &[u64], step: &[u64], bad: &[u64]) -> bool
-    ensures { λ r. ⌜ r ≡ (wrongCount (now (start .entry)) || (wrongCount (now (step .entry)) || wrongCount (now (bad .entry)))) ⌝ }
+    ensures { λ r. ⌜ r ≡ wrongCounts (now (start .entry)) (now (step .entry)) (now (bad .entry)) ⌝ }
 {
     wrong_count(start) || (wrong_count(step) || wrong_count(bad))
 }
@@ -74,14 +73,14 @@ fn wrong_bit(low: u32, high: u32, list: &[u64]) -> bool
 // Refusal 3. Start and bad use the low half only.
 fn wrong_bits(n: u32, start: &[u64], step: &[u64], bad: &[u64]) -> bool
     requires { ⌜ n ≤ 32 ⌝ }
-    ensures { λ r. ⌜ r ≡ (wrongBit n 0 (now (start .entry)) || (wrongBit n n (now (step .entry)) || wrongBit n 0 (now (bad .entry)))) ⌝ }
+    ensures { λ r. ⌜ r ≡ wrongBits n (now (start .entry)) (now (step .entry)) (now (bad .entry)) ⌝ }
 {
     wrong_bit(n, 0, start) || (wrong_bit(n, n, step) || wrong_bit(n, 0, bad))
 }
 
 // The number of the first refusal, 1 to 3, that applies to the system; 0 if none does.
 pub fn refusal(n: u32, start: &[u64], step: &[u64], bad: &[u64]) -> u32
-    ensures { λ r. ⌜ r ≡ refusalOf (record { n = n; start = now (start .entry); step = now (step .entry); bad = now (bad .entry) }) ⌝ }
+    ensures { λ r. ⌜ r ≡ refusalOf (systemOf n (now (start .entry)) (now (step .entry)) (now (bad .entry))) ⌝ }
 {
     if wrong_size(n) {
         return 1;

@@ -5,7 +5,7 @@ use mathlib.Core.Path.{_≡_, refl}
 use native.Mathlib.Omega.{arith}
 use borrow.Author.Needs.{needs}
 use lib.ListN.{length}
-use Rattle.call.specs.Promise.{systemOf}
+use Rattle.system.specs.System.{systemOf}
 use Rattle.search.proofs.Turns.{Running, running-first, running-go, running-stop, running-spent}
 use Rattle.search.proofs.all_turns.Statement.{statement}
 use Rattle.search.proofs.all_turns.Tie as tie

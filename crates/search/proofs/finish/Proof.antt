@@ -1,7 +1,7 @@
 -- `search::finish` meets its contract: each store is cleared behind its front, the levels have none. Assumes nothing.
 use mathlib.Core.Path.{_∙_}
 use borrow.Author.Needs.{needs}
-use Rattle.call.proofs.Over.{over-take, over-none}
+use Rattle.stores.proofs.Over.{over-take, over-none}
 use Rattle.search.proofs.finish.Statement.{statement}
 use Rattle.search.proofs.finish.Tie as tie
 

@@ -6,7 +6,7 @@ use mathlib.Core.Path.{_≡_, ap, _∙_}
 use native.Mathlib.Omega.{arith}
 use borrow.Author.Needs.{needs}
 use lib.ListN.{length, length-set}
-use Rattle.call.specs.Promise.{systemOf}
+use Rattle.system.specs.System.{systemOf}
 use Rattle.search.proofs.Raising.{entry-level, raised-tidy, raise-not, raise-up}
 use Rattle.search.proofs.raise.Statement.{statement}
 use Rattle.search.proofs.raise.Tie as tie

@@ -1,8 +1,9 @@
 -- `search::search` meets its contract: a refusal leaves the stores untouched, and else the run ends as the definition's and is closed. Assumes nothing.
 use mathlib.Core.Bool.{false}
 use mathlib.Core.Path.{_≡_, sym, _∙_}
+use Rattle.system.specs.System.{systemOf}
 use Rattle.call.specs.Call.{refused}
-use Rattle.call.specs.Promise.{systemOf, stores}
+use Rattle.call.specs.Promise.{stores}
 use Rattle.call.proofs.Call.{refused-stores}
 use Rattle.search.proofs.Promising.{system-promised, stores-promised, lends, ends-closing, searched-promised}
 use borrow.Author.Needs.{needs}

@@ -7,7 +7,7 @@ use native.Mathlib.Nat.{sub-zero}
 use native.Mathlib.Omega.{arith}
 use lib.ListN.{length, take, replicate, length-append, length-replicate}
 use lib.Seq.{length-take-le, take-at}
-use Rattle.call.specs.Call.{over}
+use Rattle.stores.specs.Over.{over}
 
 -- as long as the store
 pub over-length : (front store : List ℕ) → length front ≤ length store → length (over front store) ≡ length store

@@ -1,11 +1,11 @@
--- `call::clear_levels` meets its contract: its loop keeps `Cleared` of `Clearing.antt`. The measure is what is left of the length. Assumes nothing.
+-- `stores::clear_levels` meets its contract: its loop keeps `Cleared` of `Clearing.antt`. The measure is what is left of the length. Assumes nothing.
 use Prim.Native.Nat.{_-_}
 use native.Mathlib.Omega.{arith}
 use borrow.Author.Needs.{needs}
 use lib.ListN.{length}
-use Rattle.call.proofs.Clearing.{Cleared, cleared-more, cleared-all}
-use Rattle.call.proofs.clear_levels.Statement.{statement}
-use Rattle.call.proofs.clear_levels.Tie as tie
+use Rattle.stores.proofs.Clearing.{Cleared, cleared-more, cleared-all}
+use Rattle.stores.proofs.clear_levels.Statement.{statement}
+use Rattle.stores.proofs.clear_levels.Tie as tie
 
 abbrev Inv-loop : tie.InvT-loop
 Inv-loop levels₀ j₀ levels j = Cleared levels₀ levels j

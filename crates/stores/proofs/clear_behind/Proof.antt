@@ -1,9 +1,9 @@
--- `call::clear_behind` meets its contract: the tail that was lent comes back as zeros, with the front before it as it was. Assumes nothing.
+-- `stores::clear_behind` meets its contract: the tail that was lent comes back as zeros, with the front before it as it was. Assumes nothing.
 use native.Mathlib.Omega.{arith}
-use Rattle.call.proofs.Clearing.{tail-cleared, tail-none}
+use Rattle.stores.proofs.Clearing.{tail-cleared, tail-none}
 use borrow.Author.Needs.{needs}
-use Rattle.call.proofs.clear_behind.Statement.{statement}
-use Rattle.call.proofs.clear_behind.Tie as tie
+use Rattle.stores.proofs.clear_behind.Statement.{statement}
+use Rattle.stores.proofs.clear_behind.Tie as tie
 
 returns : tie.Need-returns
 returns c =

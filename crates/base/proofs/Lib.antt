@@ -1,0 +1,4 @@
+-- The root of the laws.
+pub mod Tests
+pub mod Lists
+pub mod Refusals

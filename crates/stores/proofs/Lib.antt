@@ -1,0 +1,4 @@
+-- The root of the laws.
+pub mod Over
+pub mod Lying
+pub mod Clearing
