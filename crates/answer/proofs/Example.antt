@@ -8,12 +8,12 @@ use Rattle.call.specs.Call.{wrongStores, refused, ended, called}
 use Rattle.house.specs.Text.{before, lines, digit, ahead, bytes, sum, number}
 use Rattle.house.specs.File.{inPlace, width, lengthFor, field, clauseOf, hasRoom, roomFor, withClause, entered, judged, lineTaken, readLines, said}
 use Rattle.answer.specs.Output.{letter, digits, sumByte, lineOf, one, two, four}
-use Rattle.answer.specs.Answer.{stateLines, verdictLines, callLines, roomOf1024, saidLines, answered}
+use Rattle.answer.specs.Answer.{stateLines, verdictLines, callLines, scanStores, saidLines, answered}
 use Rattle.answer.specs.Example.{ringFile, ringAnswer}
 
 pub ring-answered : answered ringFile ≡ ringAnswer
 unfolding bit somewhere least levelOf put states R wanted judge round tested found deeper settled fits kept react next run searched
     literalTrue clauseTrue listTrue word model wrongSize wrongCount wrongBit refusalOf wrongStores refused ended called
     before lines digit ahead bytes sum number inPlace width lengthFor field clauseOf hasRoom roomFor withClause entered judged lineTaken readLines
-    said letter digits sumByte lineOf one two four stateLines verdictLines callLines roomOf1024 saidLines answered
+    said letter digits sumByte lineOf one two four stateLines verdictLines callLines scanStores saidLines answered
 ring-answered = refl

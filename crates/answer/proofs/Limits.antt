@@ -18,7 +18,7 @@ use Rattle.house.specs.File as house
 use Rattle.house.proofs.Limits.{Limited, Paired, said-limited}
 use Rattle.house.proofs.Cut.{said-cut}
 use Rattle.answer.specs.Promise.{FromFile}
-use Rattle.answer.specs.Answer.{roomOf1024, clauseRooms, systemIn, answered, saidLines}
+use Rattle.answer.specs.Answer.{scanStores, clauseRooms, systemIn, answered, saidLines}
 
 pub answered-cut : (text : List ℕ) → answered text ≡ answered (take 37999 text)
 unfolding answered
@@ -46,8 +46,8 @@ refusal-of y a b c zeroth first third =
     (λ f. third (rw (e, refusalOf) (rw (a, b, c) (rw f))))
     (λ f. zeroth (rw (e, refusalOf) (rw (a, b, c) (rw f)))))
 
-room-right : wrongStores roomOf1024 ≡ false
-unfolding wrongStores roomOf1024
+room-right : wrongStores scanStores ≡ false
+unfolding wrongStores scanStores
 room-right = refl
 
 ended-number : (s : Stores) (q : ℕ) (v : Verdict) → FromFile (ended s q v .number)
@@ -57,7 +57,7 @@ ended-number s q (unsafe path) = refl
 ended-number s q noRoom = refl
 ended-number s q spent = refl
 
-pub file-number : (text : List ℕ) (r : Reading) → said clauseRooms text ≡ file r → FromFile (called (systemIn r) roomOf1024 1000000 .number)
+pub file-number : (text : List ℕ) (r : Reading) → said clauseRooms text ≡ file r → FromFile (called (systemIn r) scanStores 1000000 .number)
 unfolding listed
 file-number text r e =
     let p : Paired r = limited text (file r) e in
@@ -66,6 +66,6 @@ file-number text r e =
     (count-right (r .start) (p .start) (omega (arith, p .all, p .few)))
     (count-right (r .step) (p .step) (omega (arith, p .all, p .few)))
     (count-right (r .bad) (p .bad) (omega (arith, p .all, p .few)))
-    (λ f. rw (called-searches y roomOf1024 1000000 (refused-stores y roomOf1024 f room-right)) (ended-number roomOf1024 _ _))
-    (λ f. rw (called-refused y roomOf1024 1000000 0 (refused-system y roomOf1024 0 f)))
-    (λ f. rw (called-refused y roomOf1024 1000000 2 (refused-system y roomOf1024 2 f)))
+    (λ f. rw (called-searches y scanStores 1000000 (refused-stores y scanStores f room-right)) (ended-number scanStores _ _))
+    (λ f. rw (called-refused y scanStores 1000000 0 (refused-system y scanStores 0 f)))
+    (λ f. rw (called-refused y scanStores 1000000 2 (refused-system y scanStores 2 f)))

@@ -15,7 +15,7 @@ use Rattle.call.proofs.Call.{called-right}
 use Rattle.house.specs.File.{Reading, file, refused, said}
 use Rattle.house.specs.File as house
 use Rattle.answer.specs.Output.{letter, digits, lineOf}
-use Rattle.answer.specs.Answer.{verdictLines, gaveUpLine, refusalLine, callLines, roomOf1024, systemLines}
+use Rattle.answer.specs.Answer.{verdictLines, gaveUpLine, refusalLine, callLines, scanStores, systemLines}
 use Rattle.answer.specs.Answer.{clauseRooms, systemIn, saidLines, answered}
 use Rattle.answer.specs.Promise.{Writes, Begins, Shows, Answers}
 use Rattle.answer.proofs.Short.{answered-short}
@@ -79,9 +79,9 @@ module _ (text : List ℕ) where
       pick (refused number line) e = absurd (omega (arith, low, refusal-tells a number line (rw (answered-refused number line e) at h)))
       pick (file r) e =
           let y = systemIn r in
-          let c = called y roomOf1024 1000000 in
+          let c = called y scanStores 1000000 in
           let t = call-tells a (c .said) _ _ _ _ (rw (answered-file r e) at h) in
-          let u = told (model y) (c .said) _ _ (c .evidence) _ t (called-right y roomOf1024 1000000) in
+          let u = told (model y) (c .said) _ _ (c .evidence) _ t (called-right y scanStores 1000000) in
           record { reading = r; read = e; questions = c .questions; evidence = c .evidence; lines = answered-file r e ∙ u .0; right = u .1 }
 
   -- the promise, out of what was written

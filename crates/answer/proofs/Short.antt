@@ -11,7 +11,7 @@ use Rattle.call.specs.Call.{Stores, Said, says-safe, says-unsafe, says-nothing,
 use Rattle.call.proofs.Call.{called-evidence}
 use Rattle.house.specs.File.{Said as Read, file, refused, said}
 use Rattle.answer.specs.Output.{one, two, four}
-use Rattle.answer.specs.Answer.{stateLines, verdictLines, gaveUpLine, refusalLine, callLines, roomOf1024, clauseRooms, systemIn, answered, saidLines}
+use Rattle.answer.specs.Answer.{stateLines, verdictLines, gaveUpLine, refusalLine, callLines, scanStores, clauseRooms, systemIn, answered, saidLines}
 use Rattle.answer.proofs.Lines.{line-length}
 
 states-length : (kind : ℕ) (states : List ℕ) → length (stateLines kind states) ≡ 13 * length states
@@ -39,8 +39,8 @@ call-short says-unsafe number questions evidence after h = verdict-short 144 que
 call-short says-nothing number questions evidence after h =
     test (ltb number 5) (λ e. rw (e, callLines) (refusal-short number 0)) (λ e. rw (e, callLines) (gave-up-short number questions))
 
-room-1026 : length (roomOf1024 .states) + 2 ≡ 1026
-unfolding roomOf1024
+room-1026 : length (scanStores .states) + 2 ≡ 1026
+unfolding scanStores
 room-1026 = refl
 
 pub answered-short : (text : List ℕ) → length (answered text) ≤ 13359
@@ -48,5 +48,5 @@ unfolding answered saidLines
 answered-short text = pick (said clauseRooms text)
   where
     pick : (s : Read) → length (saidLines s) ≤ 13359
-    pick (file r) = call-short _ _ _ _ _ (omega (arith, called-evidence (systemIn r) roomOf1024 1000000, room-1026))
+    pick (file r) = call-short _ _ _ _ _ (omega (arith, called-evidence (systemIn r) scanStores 1000000, room-1026))
     pick (refused number line) = refusal-short number line

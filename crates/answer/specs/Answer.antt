@@ -1,9 +1,10 @@
 -- The whole of `scan` as a definition: what it writes for every text.
-use Prim.Native.Nat.{ℕ, suc}
+use Prim.Native.Nat.{ℕ, suc, _+_, _*_}
 use mathlib.Core.Bool.{true, false}
 use mathlib.Core.List.{List, [], _∷_, _++_}
 use lib.Dec.{ltb}
 use lib.ListN.{length, replicate}
+use Rattle.base.specs.Limits.{mostClauseLines, scanRoom, scanAllowance}
 use Rattle.system.specs.System.{System, systemOf}
 use Rattle.call.specs.Call.{Stores, says-safe, says-unsafe, says-nothing, Result, called}
 use Rattle.call.specs.Promise.{stores}
@@ -35,17 +36,17 @@ callLines r =
       | says-nothing ↦ elim (ltb (r .number) 5) [ true ↦ refusalLine (r .number) 0 | false ↦ gaveUpLine (r .number) (r .questions) ]
     ]
 
--- a room of 1,024
-unfoldable pub roomOf1024 : Stores
-roomOf1024 = stores (replicate 1024 0) (replicate 1024 0) (replicate 1026 0)
+-- stores with the room of `scan`
+unfoldable pub scanStores : Stores
+scanStores = stores (replicate scanRoom 0) (replicate scanRoom 0) (replicate (scanRoom + 2) 0)
 
 -- the answer of the search for a system
 abbrev pub systemLines : System → List ℕ
-systemLines y = callLines (called y roomOf1024 1000000)
+systemLines y = callLines (called y scanStores scanAllowance)
 
 -- clause stores that hold all clause lines of a file
 abbrev pub clauseRooms : Rooms
-clauseRooms = record { start = 2048; step = 2048; bad = 2048 }
+clauseRooms = record { start = 2 * mostClauseLines; step = 2 * mostClauseLines; bad = 2 * mostClauseLines }
 
 abbrev pub systemIn : Reading → System
 systemIn r = systemOf (r .n) (r .start) (r .step) (r .bad)

@@ -4,6 +4,7 @@ use mathlib.Core.Bool.{true}
 use mathlib.Core.List.{List, [], _∷_}
 use mathlib.Core.Path.{_≡_}
 use lib.ListN.{length, take}
+use Rattle.base.specs.Limits.{scanAllowance}
 use Rattle.ic3.specs.Model.{Model}
 use Rattle.ic3.specs.Demands.{Safe, Unsafe, listed}
 use Rattle.system.specs.System.{model}
@@ -12,7 +13,7 @@ use Rattle.call.specs.Promise.{stores, resultOf}
 use Rattle.call.specs.declared.Outcome.{Outcome}
 use Rattle.house.specs.File.{Reading, file, refused, said}
 use Rattle.answer.specs.Output.{laid}
-use Rattle.answer.specs.Answer.{verdictLines, callLines, roomOf1024, clauseRooms, systemIn, answered}
+use Rattle.answer.specs.Answer.{verdictLines, callLines, scanStores, clauseRooms, systemIn, answered}
 
 -- w was written into a buffer from index i on, and ends at index r
 pub record Writes (i : ℕ) (w before : List ℕ) (r : ℕ) (after : List ℕ) : Type 0 where
@@ -50,6 +51,6 @@ pub record Answers (text before : List ℕ) (r : ℕ) (after : List ℕ) : Type 
   pub short : r ≤ 13359
   pub cut : answered text ≡ answered (take 37999 text)
   pub line : (number line : ℕ) → said clauseRooms text ≡ refused number line → line ≤ 1027
-  pub number : (reading : Reading) → said clauseRooms text ≡ file reading → FromFile (called (systemIn reading) roomOf1024 1000000 .number)
+  pub number : (reading : Reading) → said clauseRooms text ≡ file reading → FromFile (called (systemIn reading) scanStores scanAllowance .number)
   pub safe : Begins 56 48 (answered text) → Shows text 128 Safe
   pub unsafe : Begins 57 48 (answered text) → Shows text 144 Unsafe

@@ -174,13 +174,16 @@ fn put_outcome<'a>(
     }
 }
 
-// The search with a room of 1,024 and an allowance of 1,000,000, and the lines of its outcome.
+// Masks of a clause store that holds all clause lines of a file.
+const MASKS: usize = 2 * base::MOST_CLAUSE_LINES as usize;
+
+// The search with the room and the allowance of `scan`, and the lines of its outcome.
 fn solve(n: u32, start: &[u64], step: &[u64], bad: &[u64], out: &mut [u8]) -> usize
     ensures { λ r. ⌜ Writes 0 (systemLines (systemOf n (now (start .entry)) (now (step .entry)) (now (bad .entry)))) (now (out .entry)) r (now (out .exit)) ⌝ }
 {
-    let mut states = [0u64; 1024];
-    let mut levels = [0u32; 1024];
-    let mut path = [0u64; 1026];
+    let mut states = [0u64; base::SCAN_ROOM];
+    let mut levels = [0u32; base::SCAN_ROOM];
+    let mut path = [0u64; base::SCAN_ROOM + 2];
     let outcome = search::search(
         n,
         start,
@@ -189,7 +192,7 @@ fn solve(n: u32, start: &[u64], step: &[u64], bad: &[u64], out: &mut [u8]) -> us
         &mut states,
         &mut levels,
         &mut path,
-        1_000_000,
+        base::SCAN_ALLOWANCE,
     );
     put_outcome(out, outcome, &states, &path)
 }
@@ -198,9 +201,9 @@ fn solve(n: u32, start: &[u64], step: &[u64], bad: &[u64], out: &mut [u8]) -> us
 pub fn answer(text: &[u8], out: &mut [u8]) -> usize
     ensures { λ r. ⌜ Answers (now (text .entry)) (now (out .entry)) r (now (out .exit)) ⌝ }
 {
-    let mut start = [0u64; 2048];
-    let mut step = [0u64; 2048];
-    let mut bad = [0u64; 2048];
+    let mut start = [0u64; MASKS];
+    let mut step = [0u64; MASKS];
+    let mut bad = [0u64; MASKS];
     let house = house::read(text, &mut start, &mut step, &mut bad);
     let number = house.number;
     if number != 0 {

@@ -4,6 +4,7 @@ use mathlib.Core.Bool.{Bool, not, _||_}
 use mathlib.Core.List.{List, []}
 use lib.Dec.{eqb, ltb}
 use lib.ListN.{length}
+use Rattle.base.specs.Limits.{mostStored}
 use Rattle.base.specs.Refusals.{_if_, _else_}
 use Rattle.stores.specs.Over.{over}
 use Rattle.ic3.specs.Search.{Verdict, safe, unsafe, noRoom, spent, searched}
@@ -19,7 +20,7 @@ pub record Stores : Type 0 where
 unfoldable pub wrongStores : Stores → Bool
 wrongStores s =
     not (eqb (length (s .states)) (length (s .levels)))
-    || (ltb 65536 (length (s .states)) || ltb (length (s .path)) (length (s .states) + 2))
+    || (ltb mostStored (length (s .states)) || ltb (length (s .path)) (length (s .states) + 2))
 
 -- the refusals in the order 1, 2, 3, 4; 0 if there is none
 unfoldable pub refused : System → Stores → ℕ

@@ -24,7 +24,7 @@ pub fn wrong_stores(states: &[u64], levels: &[u32], path: &[u64]) -> bool
     if states.len() != levels.len() {
         return true;
     }
-    if states.len() > 65536 {
+    if states.len() > base::MOST_STORED {
         return true;
     }
     path.len() < states.len() + 2

@@ -4,6 +4,7 @@ use mathlib.Core.Bool.{Bool, true, false, _&&_, _||_}
 use mathlib.Core.List.{List, [], _∷_}
 use lib.Dec.{eqb, ltb}
 use lib.ListN.{length}
+use Rattle.base.specs.Limits.{mostClauses}
 use Rattle.base.specs.Refusals.{_if_, _else_}
 use Rattle.masks.specs.Bit.{bit, somewhere}
 use Rattle.ic3.specs.Model.{Model}
@@ -53,7 +54,7 @@ wrongSize n = eqb n 0 || ltb 32 n
 
 -- refusal 2: a list with an odd count of masks, or over 4,096 clauses
 unfoldable pub wrongCount : List ℕ → Bool
-wrongCount l = eqb (length l % 2) 1 || ltb 4096 (length l / 2)
+wrongCount l = eqb (length l % 2) 1 || ltb mostClauses (length l / 2)
 
 abbrev pub wrongCounts : List ℕ → List ℕ → List ℕ → Bool
 wrongCounts start step bad = wrongCount start || (wrongCount step || wrongCount bad)

@@ -39,7 +39,7 @@ fn wrong_size(n: u32) -> bool
 fn wrong_count(list: &[u64]) -> bool
     ensures { λ r. ⌜ r ≡ wrongCount (now (list .entry)) ⌝ }
 {
-    list.len() % 2 == 1 || 4096 < list.len() / 2
+    list.len() % 2 == 1 || base::MOST_CLAUSES < list.len() / 2
 }
 
 // Refusal 2. The parentheses are the definition's.

@@ -1,12 +1,12 @@
 -- `answer::solve` meets its contract: the search promises the call, and its outcome is what is written. Assumes nothing.
-use Rattle.answer.specs.Answer.{roomOf1024}
+use Rattle.answer.specs.Answer.{scanStores}
 use Rattle.answer.proofs.Outcomes.{levels-apart}
 use borrow.Author.Needs.{needs}
 use Rattle.answer.proofs.solve.Statement.{statement}
 use Rattle.answer.proofs.solve.Tie as tie
 
 returns : tie.Need-returns
-unfolding roomOf1024
+unfolding scanStores
 returns c =
     let p = c .before .before in
     let s = p .before .before .before .before .before .before .before .search in
