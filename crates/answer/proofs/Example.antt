@@ -5,7 +5,8 @@ use Rattle.ic3.specs.Model.{least}
 use Rattle.ic3.specs.Search.{levelOf, put, states, R, wanted, judge, round, tested, found, deeper, settled, fits, kept, react, next, run, searched}
 use Rattle.system.specs.System.{literalTrue, clauseTrue, listTrue, word, model, wrongSize, wrongCount, wrongBit, refusalOf}
 use Rattle.call.specs.Call.{wrongStores, refused, ended, called}
-use Rattle.house.specs.Text.{before, lines, digit, ahead, bytes, sum, number}
+use Rattle.text.specs.Lines.{before, lines}
+use Rattle.house.specs.Text.{digit, ahead, bytes, sum, number}
 use Rattle.house.specs.File.{inPlace, width, lengthFor, field, clauseOf, hasRoom, roomFor, withClause, entered, judged, lineTaken, readLines, said}
 use Rattle.answer.specs.Output.{letter, digits, sumByte, lineOf, one, two, four}
 use Rattle.answer.specs.Answer.{stateLines, verdictLines, callLines, scanStores, saidLines, answered}

@@ -9,7 +9,7 @@ use borrow.Author.Tests.{eqb-false, ltb-true, ltb-false}
 use lib.Dec.{eqb, ltb}
 use lib.ListN.{length, getD, take}
 use Rattle.base.proofs.Tests.{test}
-use Rattle.house.specs.Text.{before, lines}
+use Rattle.text.specs.Lines.{before, lines}
 use Rattle.house.specs.File.{Rooms, Reading, Taken, on, refuse, lineTaken, readLines, nothing, said}
 use Rattle.house.proofs.Frames.{form}
 use Rattle.house.proofs.Malformed.{malformed}

@@ -1,7 +1,6 @@
 -- The root of the laws.
 pub mod Digits
 pub mod Placing
-pub mod Lines
 pub mod Frames
 pub mod Malformed
 pub mod Numbers
@@ -13,4 +12,5 @@ pub mod Limits
 pub mod Taking
 pub mod Reading
 pub mod Cut
+pub mod Again
 pub mod Lending

@@ -11,7 +11,8 @@ use borrow.Author.Tests.{eqb-true, eqb-false, ltb-true, ltb-false, leb-true, lt-
 use lib.Dec.{eqb, ltb, leb}
 use lib.ListN.{length, getD, length-append}
 use Rattle.base.proofs.Tests.{test, clash, both}
-use Rattle.house.specs.Text.{lines, bytes, sum}
+use Rattle.text.specs.Lines.{lines}
+use Rattle.house.specs.Text.{bytes, sum}
 use Rattle.house.specs.File.{Rooms, Reading, Taken, on, refuse, inPlace, lengthFor, field, clauseOf, roomFor, withClause, entered, judged, lineTaken}
 use Rattle.house.specs.File.{Said, file, refused, nothing, readLines, said}
 use Rattle.house.proofs.Frames.{form}

@@ -1,20 +1,27 @@
 -- Line after line. What is left of the text, from where reading stands, says what the whole text says, until a line is refused or the text ends.
 -- Assumes nothing.
-use Prim.Native.Nat.{ℕ, suc, _+_, _≤_, _<_}
+use Prim.Native.Nat.{ℕ, suc, _+_, _-_, _≤_, _<_}
+use mathlib.Core.Bool.{true, false}
 use mathlib.Core.List.{List, [], _∷_}
-use mathlib.Core.Path.{_≡_, refl, sym, _∙_}
+use mathlib.Core.Logic.{⊎-elim}
+use mathlib.Core.Path.{_≡_, refl, sym, ap, _∙_}
 use native.Mathlib.Numerals.{add-one}
 use native.Mathlib.Omega.{arith}
-use borrow.Author.Tests.{eq-eqb, ne-eqb}
+use borrow.Author.Tests.{eq-eqb, ne-eqb, ltb-true, ltb-false}
+use lib.Dec.{ltb}
 use lib.ListN.{length, take, drop, drop-of-length-le}
 use lib.Seq.{length-take-le}
 use Rattle.stores.proofs.Over.{over-same}
-use Rattle.house.specs.Text.{lines}
+use Rattle.base.proofs.Tests.{eq-or-ne}
+use Rattle.text.specs.Lines.{lines, lineLength, LineAt}
+use Rattle.text.proofs.Lines.{line-at}
 use Rattle.house.specs.File.{Rooms, Reading, Taken, on, refuse, lineTaken, Said, file, refused, readLines, said}
 use Rattle.house.specs.Promise.{Lists, lists, roomsOf, filled, resultOf}
-use Rattle.house.specs.Lent.{LineAt, Says, Lie, readingOf, Same, Enters, Takes, Took}
+use Rattle.house.specs.Lent.{Says, Lie, readingOf, Same, Enters, Takes, begun, saidFrom, Stands, Turned, Ended, refusedAt, houseOf, Took}
 use Rattle.house.specs.declared.Line.{Line}
+use Rattle.house.specs.declared.House.{House}
 use Rattle.house.specs.declared.Place.{Place}
+use Rattle.house.specs.declared.Progress.{Progress}
 use Rattle.house.specs.declared.Turn.{Turn}
 use Rattle.house.specs.declared.Turn.the-variants.{On, Refused}
 use Rattle.house.proofs.Entering.{same-refl}
@@ -57,84 +64,142 @@ same-then a b c e f = record { start = f .start ∙ e .start; step = f .step ∙
 lists-same : (l : Lists) (start step bad : List ℕ) → l .start ≡ start → l .step ≡ step → l .bad ≡ bad → l ≡ lists start step bad
 lists-same l start step bad e f g = rw (← e, ← f, ← g)
 
-module _ (text : List ℕ) (at : ℕ) (before : Lists) where
-  -- reading stands at index i, on this line, and what was read lies in the stores
-  pub record Taking (i line : ℕ) (p : Place) (l : Lists) : Type 0 where
-    pub within : i ≤ length text
-    pub counted : line ≤ i + 1
-    pub same : Same before l
-    pub lie : Lie p l
-    pub rest : readLines (roomsOf before) (lines (drop i text)) line (readingOf p l) ≡ said (roomsOf before) (drop at text)
+-- ---- what the lines that are left say
+from-on : (rest : List (List ℕ)) (s : Progress) (l : Lists) → s .number ≡ 0
+    → saidFrom rest s l ≡ readLines (roomsOf l) rest (s .line) (readingOf (s .place) l)
+unfolding saidFrom
+from-on rest s l e = rw (eq-eqb (s .number) 0 e, saidFrom)
 
-  -- nothing was read
-  pub taking-first : at ≤ length text → Lie (record { stage = 0; n = 0; clauses = 0; start = 0; step = 0; bad = 0 }) before
-      → Taking at 1 (record { stage = 0; n = 0; clauses = 0; start = 0; step = 0; bad = 0 }) before
-  unfolding said
-  taking-first h w = record { within = h; counted = omega arith; same = same-refl before; lie = w; rest = refl }
+from-refused : (rest : List (List ℕ)) (s : Progress) (l : Lists) → (s .number ≡ 0 → ⊥) → saidFrom rest s l ≡ refused (s .number) (s .line)
+unfolding saidFrom
+from-refused rest s l f = rw (ne-eqb (s .number) 0 f, saidFrom)
 
-module _ {text : List ℕ} {at : ℕ} {before : Lists} {i line : ℕ} {p : Place} {l : Lists} (w : Taking text at before i line p l)
-    {len : ℕ} (a : LineAt text i len) where
+-- nothing was read
+pub stands-first : (text : List ℕ) (l : Lists) → Lie (begun text .place) l → Stands text 0 (begun text) l
+unfolding said
+stands-first text l w =
+    record {
+      within = omega arith;
+      counted = omega arith;
+      lie = λ e. w;
+      rest = from-on (lines text) (begun text) l refl;
+      goes-on = λ e. (refl, ltb-true 0 (length text) e);
+      stops = λ e z. ltb-false 0 (length text) e;
+    }
+
+module _ {text : List ℕ} {i : ℕ} {s : Progress} {l : Lists} (w : Stands text i s l) (e : s .more ≡ true)
+    {end : ℕ} (b : end ≡ i + lineLength (drop i text)) where
+  -- the line from i to its end
+  pub line-here : LineAt text i (end - i)
+  line-here = let len : end - i ≡ lineLength (drop i text) = omega arith in rw len (line-at text i (w .goes-on e .1))
+
   -- the rest is this line and what follows it
-  first : (t : Taken) → lineTaken (roomsOf l) (readingOf p l) (take len (drop i text)) ≡ t
-      → following (roomsOf before) (lines (drop (i + len) text)) line t ≡ said (roomsOf before) (drop at text)
-  first t e =
-      sym (read-line (roomsOf before) _ _ line (readingOf p l) t (rw (rooms-same before l (w .same)) at e)) ∙ (rw (a .first) at (w .rest))
+  first : (t : Taken) → lineTaken (roomsOf l) (readingOf (s .place) l) (take (end - i) (drop i text)) ≡ t
+      → following (roomsOf l) (lines (drop end text)) (s .line) t ≡ said (roomsOf l) text
+  first t h =
+      let to : i + (end - i) ≡ end = omega arith in
+      sym (read-line (roomsOf l) _ _ (s .line) (readingOf (s .place) l) t h)
+      ∙ (rw (line-here .first, to) at (sym (from-on (lines (drop i text)) s l (w .goes-on e .0)) ∙ w .rest))
 
   -- a line was taken
-  pub taking-on : {q : Place} {after : Lists} → Takes p (take len (drop i text)) l (On q) after → Taking text at before (i + len) (line + 1) q after
-  taking-on {q} {after} t =
+  pub turned-on : {q : Place} {after : Lists} → Takes (s .place) (take (end - i) (drop i text)) l (On q) after
+      → Turned text end l (record { more = ltb end (length text); number = 0; line = s .line + 1; place = q }) after
+  turned-on {q} {after} t =
       record {
-        within = a .within;
-        counted = omega (arith, a .filled, w .counted);
-        same = same-then before l after (w .same) (t .same);
-        lie = t .lies;
-        rest = rw add-one (first (on (readingOf q after)) (sym (t .leads)));
+        same = t .same;
+        stands = record {
+          within = omega (arith, line-here .within);
+          counted = omega (arith, line-here .filled, w .counted);
+          lie = λ z. t .lies;
+          rest = from-on _ _ after refl ∙ rw (rooms-same l after (t .same), add-one) (first (on (readingOf q after)) (sym (t .leads)));
+          goes-on = λ h. (refl, ltb-true end (length text) h);
+          stops = λ h z. ltb-false end (length text) h;
+        };
       }
 
   -- a line was refused
-  pub taking-refused : {number : ℕ} {after : Lists} → Takes p (take len (drop i text)) l (Refused number) after
-      → Took (drop at text) before (record { number = number; line = line; n = 0; start = 0; step = 0; bad = 0 }) after
-  unfolding resultOf
-  taking-refused {number} {after} t =
-      let e : said (roomsOf before) (drop at text) ≡ refused number line = sym (first (refuse number) (sym (t .leads))) in
-      let n : 0 < number = rw e at (said-limited (roomsOf before) (drop at text)) .0 in
+  pub turned-refused : {number : ℕ} {after : Lists} → Takes (s .place) (take (end - i) (drop i text)) l (Refused number) after
+      → Turned text end l (record { more = false; number = number; line = s .line; place = s .place }) after
+  turned-refused {number} {after} t =
+      let h : said (roomsOf l) text ≡ refused number (s .line) = sym (first (refuse number) (sym (t .leads))) in
+      let n : 0 < number = rw h at (said-limited (roomsOf l) text) .0 in
       record {
-        same = same-then before l after (w .same) (t .same);
-        answer = rw e;
-        lists = λ z. absurd (omega arith);
+        same = t .same;
+        stands = record {
+          within = omega (arith, line-here .within);
+          counted = omega (arith, line-here .filled, w .counted);
+          lie = λ z. absurd (omega arith);
+          rest = from-refused _ _ after (λ z. omega arith) ∙ rw (rooms-same l after (t .same)) (sym h);
+          goes-on = λ z. let x : _≡_ {A = ℕ} 0 1 = cc in absurd (omega arith);
+          stops = λ x z. absurd (omega arith);
+        };
       }
 
--- the text has ended
-module _ {text : List ℕ} {at : ℕ} {before : Lists} {i line : ℕ} {p : Place} {l : Lists} (w : Taking text at before i line p l)
-    (h : length text ≤ i) where
-  last : readLines (roomsOf before) [] line (readingOf p l) ≡ said (roomsOf before) (drop at text)
-  unfolding lines
-  last = rw (drop-of-length-le text h) at (w .rest)
+-- no line is left
+pub ended : {text : List ℕ} {i : ℕ} {s : Progress} {l : Lists} (before : Lists) → Stands text i s l → s .more ≡ false → Same before l → Ended text before s l
+unfolding lines
+ended {text} {i} {s} {l} before w e same =
+    record {
+      same = same;
+      lie = w .lie;
+      rest =
+          ⊎-elim (λ z. rw (drop-of-length-le text (w .stops e z)) at (w .rest))
+          (λ f. from-refused [] s l f ∙ sym (from-refused (lines (drop i text)) s l f) ∙ w .rest) (eq-or-ne (s .number) 0);
+    }
 
-  -- before 0F
-  pub taking-stopped : (p .stage ≡ 16 → ⊥) → Took (drop at text) before (record { number = 10; line = line; n = 0; start = 0; step = 0; bad = 0 }) l
-  unfolding resultOf
-  taking-stopped f =
-      let e : said (roomsOf before) (drop at text) ≡ refused 10 line = sym last ∙ read-stop (roomsOf before) line (readingOf p l) f in
-      record { same = w .same; answer = rw e; lists = λ z. absurd (omega arith) }
+-- ---- the answer
+pub house-refused : (s : Progress) → (s .number ≡ 0 → ⊥) → houseOf s ≡ refusedAt (s .number) (s .line)
+unfolding houseOf
+house-refused s f = rw (ne-eqb (s .number) 0 f, houseOf)
 
-  -- behind 0F
-  pub taking-ended : p .stage ≡ 16
-      → Took (drop at text) before (record { number = 0; line = 0; n = p .n; start = p .start; step = p .step; bad = p .bad }) l
+pub house-stopped : (s : Progress) → s .number ≡ 0 → (s .place .stage ≡ 16 → ⊥) → houseOf s ≡ refusedAt 10 (s .line)
+unfolding houseOf
+house-stopped s e f = rw (eq-eqb (s .number) 0 e, ne-eqb (s .place .stage) 16 f, houseOf)
+
+pub house-file : (s : Progress) → s .number ≡ 0 → s .place .stage ≡ 16
+    → houseOf s ≡ record { number = 0; line = 0; n = s .place .n; start = s .place .start; step = s .place .step; bad = s .place .bad }
+unfolding houseOf
+house-file s e f = rw (eq-eqb (s .number) 0 e, eq-eqb (s .place .stage) 16 f, houseOf)
+
+-- a refusal leaves no list
+took-refused : (text : List ℕ) (before after : Lists) (number line : ℕ) → Same before after → said (roomsOf before) text ≡ refused number line
+    → Took text before (refusedAt number line) after
+unfolding resultOf
+took-refused text before after number line same e =
+    let n : 0 < number = rw e at (said-limited (roomsOf before) text) .0 in
+    record { same = same; answer = rw e; lists = λ z. absurd (omega arith) }
+
+module _ (text : List ℕ) (before : Lists) (s : Progress) (after : Lists) (w : Ended text before s after) where
+  whole : saidFrom [] s after ≡ said (roomsOf before) text
+  whole = rw (rooms-same before after (w .same)) at (w .rest)
+
+  took-file : s .number ≡ 0 → s .place .stage ≡ 16 → Took text before (houseOf s) after
   unfolding resultOf filled
-  taking-ended f =
-      let e : said (roomsOf before) (drop at text) ≡ file (readingOf p l) = sym last ∙ read-end (roomsOf before) line (readingOf p l) f in
-      let v = w .lie in
-      record {
+  took-file z f =
+      let v = w .lie z in
+      let p = s .place in
+      let e : said (roomsOf before) text ≡ file (readingOf p after) = sym whole ∙ from-on [] s after z ∙ read-end (roomsOf after) (s .line) (readingOf p after) f in
+      rw (house-file s z f)
+      (record {
         same = w .same;
         answer = rw e
             (rw (
-              length-take-le (p .start) (l .start) (v .start .fits),
-              length-take-le (p .step) (l .step) (v .step .fits),
-              length-take-le (p .bad) (l .bad) (v .bad .fits),
+              length-take-le (p .start) (after .start) (v .start .fits),
+              length-take-le (p .step) (after .step) (v .step .fits),
+              length-take-le (p .bad) (after .bad) (v .bad .fits),
             ));
-        lists = λ z. rw e
-            (lists-same l _ _ _ (v .start .rest ∙ over-same _ _ _ (w .same .start))
+        lists = λ _. rw e
+            (lists-same after _ _ _ (v .start .rest ∙ over-same _ _ _ (w .same .start))
             (v .step .rest ∙ over-same _ _ _ (w .same .step))
             (v .bad .rest ∙ over-same _ _ _ (w .same .bad)));
-      }
+      })
+
+  pub took : Took text before (houseOf s) after
+  took =
+      ⊎-elim
+      (λ z. ⊎-elim (took-file z)
+      (λ f. rw (house-stopped s z f)
+      (took-refused text before after 10 (s .line) (w .same) (sym whole ∙ from-on [] s after z ∙ read-stop (roomsOf after) (s .line) (readingOf (s .place) after) f)))
+      (eq-or-ne (s .place .stage) 16))
+      (λ f. rw (house-refused s f) (took-refused text before after (s .number) (s .line) (w .same) (sym whole ∙ from-refused [] s after f)))
+      (eq-or-ne (s .number) 0)

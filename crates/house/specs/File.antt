@@ -5,7 +5,8 @@ use mathlib.Core.List.{List, [], _∷_, _++_}
 use mathlib.Core.Option.{none, some}
 use lib.Dec.{eqb, ltb, leb}
 use lib.ListN.{length, getD, take, drop}
-use Rattle.house.specs.Text.{lines, bytes, sum, number}
+use Rattle.text.specs.Lines.{lines}
+use Rattle.house.specs.Text.{bytes, sum, number}
 
 -- the lengths of the lent stores of start, step and bad, in masks
 pub record Rooms : Type 0 where

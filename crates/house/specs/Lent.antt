@@ -7,27 +7,19 @@ use mathlib.Core.Path.{_≡_}
 use lib.Dec.{eqb, ltb, leb}
 use lib.ListN.{length, getD, take, drop}
 use Rattle.stores.specs.Over.{Lies}
-use Rattle.house.specs.Text.{lines, digit, bytes}
-use Rattle.house.specs.File.{Rooms, Reading, Taken, on, refuse, roomFor, withClause, lineTaken, said}
+use Rattle.text.specs.Lines.{lines}
+use Rattle.house.specs.Text.{digit, bytes}
+use Rattle.house.specs.File.{Rooms, Reading, Taken, on, refuse, roomFor, withClause, lineTaken, Said, refused, readLines, said}
 use Rattle.house.specs.Promise.{Lists, roomsOf, resultOf}
 use Rattle.house.specs.declared.House.{House}
 use Rattle.house.specs.declared.Line.{Line}
 use Rattle.house.specs.declared.Line.the-variants.{Size, Clause, Count, Wrong}
 use Rattle.house.specs.declared.Place.{Place}
+use Rattle.house.specs.declared.Progress.{Progress}
 use Rattle.house.specs.declared.Turn.{Turn}
 use Rattle.house.specs.declared.Turn.the-variants.{On, Refused}
 
 -- ---- a text by index
--- the line that starts at index i has `len` bytes
-pub record LineAt (text : List ℕ) (i len : ℕ) : Type 0 where
-  pub filled : 1 ≤ len
-  pub within : i + len ≤ length text
-  pub first : lines (drop i text) ≡ take len (drop i text) ∷ lines (drop (i + len) text)
-
--- an index of a text, or its end
-pub record Within (text : List ℕ) (i : ℕ) : Type 0 where
-  pub within : i ≤ length text
-
 -- the byte that the pair of digits at index i makes
 unfoldable pub byteAt : List ℕ → ℕ → ℕ
 byteAt text i = 16 * digit (getD text i 0) + digit (getD text (i + 1) 0)
@@ -126,6 +118,67 @@ Enters p said before t after = Turns (takenAs (roomsOf before) (readingOf p befo
 
 abbrev pub Takes : Place → List ℕ → Lists → Turn → Lists → Type 0
 Takes p line before t after = Turns (lineTaken (roomsOf before) (readingOf p before) line) before t after
+
+-- ---- line after line
+-- nothing was read
+abbrev pub begun : List ℕ → Progress
+begun text =
+    record {
+      more = ltb 0 (length text);
+      number = 0;
+      line = 1;
+      place = record { stage = 0; n = 0; clauses = 0; start = 0; step = 0; bad = 0 };
+    }
+
+-- what the lines that are left say, from where reading stands; after a refusal, that
+unfoldable pub saidFrom : List (List ℕ) → Progress → Lists → Said
+saidFrom rest s l =
+    elim (eqb (s .number) 0) [
+      | true ↦ readLines (roomsOf l) rest (s .line) (readingOf (s .place) l)
+      | false ↦ refused (s .number) (s .line)
+    ]
+
+-- Reading stands at index i, where a line starts: what is left of the text says what the whole text says.
+pub record Stands (text : List ℕ) (i : ℕ) (s : Progress) (l : Lists) : Type 0 where
+  pub within : i ≤ length text
+  pub counted : s .line ≤ i + 1
+  pub lie : s .number ≡ 0 → Lie (s .place) l
+  pub rest : saidFrom (lines (drop i text)) s l ≡ said (roomsOf l) text
+  pub goes-on : s .more ≡ true → (s .number ≡ 0) × (i < length text)
+  pub stops : s .more ≡ false → s .number ≡ 0 → length text ≤ i
+
+-- a line was taken, and reading stands behind it
+pub record Turned (text : List ℕ) (i : ℕ) (before : Lists) (s : Progress) (after : Lists) : Type 0 where
+  pub same : Same before after
+  pub stands : Stands text i s after
+
+-- no line is left
+pub record Ended (text : List ℕ) (before : Lists) (s : Progress) (after : Lists) : Type 0 where
+  pub same : Same before after
+  pub lie : s .number ≡ 0 → Lie (s .place) after
+  pub rest : saidFrom [] s after ≡ said (roomsOf after) text
+
+-- a refusal and its line
+abbrev pub refusedAt : ℕ → ℕ → House
+refusedAt number line = record { number = number; line = line; n = 0; start = 0; step = 0; bad = 0 }
+
+-- what was read, where no line is left; 10 before the 0F line
+unfoldable pub houseOf : Progress → House
+houseOf s =
+    elim (eqb (s .number) 0) [
+      | true ↦ elim (eqb (s .place .stage) 16) [
+        | true ↦ record {
+          number = 0;
+          line = 0;
+          n = s .place .n;
+          start = s .place .start;
+          step = s .place .step;
+          bad = s .place .bad;
+        }
+        | false ↦ refusedAt 10 (s .line)
+      ]
+      | false ↦ refusedAt (s .number) (s .line)
+    ]
 
 -- the lines of a text were taken: the answer is the definition's, and the lists lie in the stores unless a line was refused
 pub record Took (text : List ℕ) (before : Lists) (house : House) (after : Lists) : Type 0 where

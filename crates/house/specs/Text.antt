@@ -1,19 +1,9 @@
--- From bytes to lines to frames: lines of capital hexadecimal, each ended by a line feed, one frame a line.
+-- From lines to frames: lines of capital hexadecimal, each ended by a line feed, one frame a line.
 use Prim.Native.Nat.{ℕ, _+_, _-_, _*_}
 use mathlib.Core.Bool.{true, false, _&&_}
 use mathlib.Core.List.{List, [], _∷_}
 use mathlib.Core.Option.{Option, none, some}
 use lib.Dec.{eqb, ltb, leb}
-
--- a byte in front of the lines of what follows it
-unfoldable pub before : ℕ → List (List ℕ) → List (List ℕ)
-before b [] = (b ∷ []) ∷ []
-before b (l ∷ ls) = (b ∷ l) ∷ ls
-
--- the lines of a text, each with its line feed, 10; the last may lack it
-unfoldable pub lines : List ℕ → List (List ℕ)
-lines [] = []
-lines (b ∷ bs) = elim (eqb b 10) [ true ↦ (b ∷ []) ∷ lines bs | false ↦ before b (lines bs) ]
 
 -- the value of a digit, 0-9 or A-F; of any other byte, 16
 unfoldable pub digit : ℕ → ℕ

@@ -1,13 +1,15 @@
 // House files: a text is read into three lent clause stores, a line at a time. A line is parsed by itself; what it says is then entered.
 ghost use mathlib.Core.Path.{_≡_};
+ghost use mathlib.Core.Bool.{true};
 ghost use mathlib.Core.List.{[]};
 ghost use Prim.Native.Nat.{_+_, _*_, _≤_, _<_};
 ghost use lib.ListN.{length, take, drop};
 ghost use Rattle.stores.specs.Over.{Lies};
+ghost use Rattle.text.specs.Lines.{lineLength, LineAt};
 ghost use Rattle.house.specs.Text.{digit, sum, number};
 ghost use Rattle.house.specs.File.{inPlace, width, lengthFor};
 ghost use Rattle.house.specs.Promise.{lists, filled, Reads};
-ghost use Rattle.house.specs.Lent.{LineAt, Within, byteAt, frameAt, NumberAt, FrameAt, Says, PutAs, Lie, oneMore, Enters, Takes, Took};
+ghost use Rattle.house.specs.Lent.{byteAt, frameAt, NumberAt, FrameAt, Says, PutAs, Lie, oneMore, Enters, Takes, begun, Stands, Turned, Ended, houseOf, Took};
 ghost use Rattle.house.specs.declared.Line.the-variants.{Clause};
 
 // With the number 0, n and the counts of masks; with a refusal, its line, and all else 0.
@@ -44,6 +46,14 @@ enum Turn {
     Refused(u32),
 }
 
+// Where reading stands: whether there is a line to take, the number of a refusal or 0, the line, and what was read.
+struct Progress {
+    more: bool,
+    number: u32,
+    line: usize,
+    place: Place,
+}
+
 // ---- a line by itself
 
 // The value of a digit, 16 if it is none.
@@ -57,21 +67,6 @@ fn digit_value(c: u8) -> u32
         return c as u32 - 55;
     }
     16
-}
-
-// How many bytes the line at this index has, with its line feed.
-fn line_length(text: &[u8], at: usize) -> usize
-    requires { ⌜ at < length (now text) ⌝ }
-    ensures { λ r. ⌜ LineAt (now (text .entry)) at r ⌝ }
-{
-    let mut len = 1;
-    while at + len < text.len() {
-        if text[at + len - 1] == 10 {
-            return len;
-        }
-        len += 1;
-    }
-    len
 }
 
 // The byte that two digits make.
@@ -315,6 +310,76 @@ fn take_line(
     enter(p, said, start, step, bad)
 }
 
+// Nothing was read.
+fn begin(text: &[u8]) -> Progress
+    ensures { λ r. ⌜ r ≡ begun (now (text .entry)) ⌝ }
+{
+    Progress {
+        more: 0 < text.len(),
+        number: 0,
+        line: 1,
+        place: Place {
+            stage: 0,
+            n: 0,
+            clauses: 0,
+            start: 0,
+            step: 0,
+            bad: 0,
+        },
+    }
+}
+
+// The line from this index to its end is taken.
+fn take_turn(
+    text: &[u8],
+    at: usize,
+    end: usize,
+    s: Progress,
+    start: &mut [u64],
+    step: &mut [u64],
+    bad: &mut [u64],
+) -> Progress
+    requires { ⌜ (Stands (now text) at s (lists (now start) (now step) (now bad))) × (s .more ≡ true) × (end ≡ at + lineLength (drop at (now text))) ⌝ }
+    ensures { λ r. ⌜ Turned (now (text .entry)) end (lists (now (start .entry)) (now (step .entry)) (now (bad .entry))) r (lists (now (start .exit)) (now (step .exit)) (now (bad .exit))) ⌝ }
+{
+    let p = s.place;
+    let t = take_line(text, at, end - at, p, start, step, bad);
+    match t {
+        Turn::On(q) => Progress {
+            more: end < text.len(),
+            number: 0,
+            line: s.line + 1,
+            place: q,
+        },
+        Turn::Refused(number) => Progress {
+            more: false,
+            number,
+            line: s.line,
+            place: p,
+        },
+    }
+}
+
+// Line after line, as the reader's place moves, into stores that are all zero.
+fn take_lines(
+    text: &[u8],
+    mut s: Progress,
+    start: &mut [u64],
+    step: &mut [u64],
+    bad: &mut [u64],
+) -> Progress
+    requires { ⌜ Stands (now text) 0 s (lists (now start) (now step) (now bad)) ⌝ }
+    ensures { λ r. ⌜ Ended (now (text .entry)) (lists (now (start .entry)) (now (step .entry)) (now (bad .entry))) r (lists (now (start .exit)) (now (step .exit)) (now (bad .exit))) ⌝ }
+{
+    let mut r = text::new(text);
+    while s.more {
+        let at = r.at;
+        r = text::next_line(r);
+        s = take_turn(r.text, at, r.at, s, start, step, bad);
+    }
+    s
+}
+
 // A refusal and its line.
 fn refused_at(number: u32, line: usize) -> House
     ensures { λ r. ⌜ r ≡ record { number = number; line = line; n = 0; start = 0; step = 0; bad = 0 } ⌝ }
@@ -329,37 +394,16 @@ fn refused_at(number: u32, line: usize) -> House
     }
 }
 
-// Line after line from this index on, into stores that are all zero.
-fn take_lines(text: &[u8], at: usize, start: &mut [u64], step: &mut [u64], bad: &mut [u64]) -> House
-    requires { ⌜ (at ≤ length (now text)) × (Lie (record { stage = 0; n = 0; clauses = 0; start = 0; step = 0; bad = 0 }) (lists (now start) (now step) (now bad))) ⌝ }
-    ensures { λ r. ⌜ Took (drop at (now (text .entry))) (lists (now (start .entry)) (now (step .entry)) (now (bad .entry))) r (lists (now (start .exit)) (now (step .exit)) (now (bad .exit))) ⌝ }
+// What was read, where no line is left. Refusal 10: the file stops before 0F.
+fn house_of(s: Progress) -> House
+    ensures { λ r. ⌜ r ≡ houseOf s ⌝ }
 {
-    let mut p = Place {
-        stage: 0,
-        n: 0,
-        clauses: 0,
-        start: 0,
-        step: 0,
-        bad: 0,
-    };
-    let mut i = at;
-    let mut line = 1;
-    while i < text.len() {
-        let len = line_length(text, i);
-        let t = take_line(text, i, len, p, start, step, bad);
-        match t {
-            Turn::On(q) => {
-                p = q;
-            }
-            Turn::Refused(number) => {
-                return refused_at(number, line);
-            }
-        }
-        i += len;
-        line += 1;
+    if s.number != 0 {
+        return refused_at(s.number, s.line);
     }
+    let p = s.place;
     if p.stage != 16 {
-        return refused_at(10, line);
+        return refused_at(10, s.line);
     }
     House {
         number: 0,
@@ -371,6 +415,15 @@ fn take_lines(text: &[u8], at: usize, start: &mut [u64], step: &mut [u64], bad: 
     }
 }
 
+// All lines of the text, into stores that are all zero.
+fn read_lines(text: &[u8], start: &mut [u64], step: &mut [u64], bad: &mut [u64]) -> House
+    requires { ⌜ Lie (begun (now text) .place) (lists (now start) (now step) (now bad)) ⌝ }
+    ensures { λ r. ⌜ Took (now (text .entry)) (lists (now (start .entry)) (now (step .entry)) (now (bad .entry))) r (lists (now (start .exit)) (now (step .exit)) (now (bad .exit))) ⌝ }
+{
+    let s = begin(text);
+    house_of(take_lines(text, s, start, step, bad))
+}
+
 // All three stores become zero.
 fn clear_stores(start: &mut [u64], step: &mut [u64], bad: &mut [u64])
     ensures { λ _. ⌜ lists (now (start .exit)) (now (step .exit)) (now (bad .exit)) ≡ filled (lists (now (start .entry)) (now (step .entry)) (now (bad .entry))) [] [] [] ⌝ }
@@ -380,45 +433,14 @@ fn clear_stores(start: &mut [u64], step: &mut [u64], bad: &mut [u64])
     stores::clear(bad);
 }
 
-// The text from this index on. After a refusal the stores are all zero; else all behind each list is zero.
-fn read_from(text: &[u8], at: usize, start: &mut [u64], step: &mut [u64], bad: &mut [u64]) -> House
-    requires { ⌜ Within (now text) at ⌝ }
-    ensures { λ r. ⌜ Reads (drop at (now (text .entry))) (lists (now (start .entry)) (now (step .entry)) (now (bad .entry))) r (lists (now (start .exit)) (now (step .exit)) (now (bad .exit))) ⌝ }
-{
-    clear_stores(start, step, bad);
-    let house = take_lines(text, at, start, step, bad);
-    if house.number != 0 {
-        clear_stores(start, step, bad);
-    }
-    house
-}
-
-// ---- a reader keeps the text and its place in it
-
-// A text, and the index of the next line.
-struct Reader<'a> {
-    text: &'a [u8],
-    at: usize,
-}
-
-// The whole text is still to be read.
-fn new<'a>(text: &'a [u8]) -> Reader<'a>
-    ensures { λ r. ⌜ (r .text ≡ text .entry) × (r .at ≡ 0) ⌝ }
-{
-    Reader { text, at: 0 }
-}
-
-// Everything from the reader's place on.
-fn read_all<'a>(r: Reader<'a>, start: &mut [u64], step: &mut [u64], bad: &mut [u64]) -> House
-    requires { ⌜ Within (now (r .text)) (r .at) ⌝ }
-    ensures { λ h. ⌜ Reads (drop (r .entry .at) (now (r .entry .text))) (lists (now (start .entry)) (now (step .entry)) (now (bad .entry))) h (lists (now (start .exit)) (now (step .exit)) (now (bad .exit))) ⌝ }
-{
-    read_from(r.text, r.at, start, step, bad)
-}
-
 // A house file: its n and lists, or the first refusal and its line. After a refusal the stores are all zero; else all behind each list is zero.
 pub fn read(text: &[u8], start: &mut [u64], step: &mut [u64], bad: &mut [u64]) -> House
     ensures { λ r. ⌜ Reads (now (text .entry)) (lists (now (start .entry)) (now (step .entry)) (now (bad .entry))) r (lists (now (start .exit)) (now (step .exit)) (now (bad .exit))) ⌝ }
 {
-    read_all(new(text), start, step, bad)
+    clear_stores(start, step, bad);
+    let house = read_lines(text, start, step, bad);
+    if house.number != 0 {
+        clear_stores(start, step, bad);
+    }
+    house
 }

@@ -1,0 +1,43 @@
+// Texts by line, and a reader that keeps a text and its place in it.
+ghost use mathlib.Core.Path.{_≡_};
+ghost use Prim.Native.Nat.{_+_};
+ghost use lib.ListN.{drop};
+ghost use Rattle.text.specs.Lines.{lineLength};
+
+// How many bytes the line at this index has, with its line feed; 0 where the text has ended.
+pub fn line_length(text: &[u8], at: usize) -> usize
+    ensures { λ r. ⌜ r ≡ lineLength (drop at (now (text .entry))) ⌝ }
+{
+    let mut i = at;
+    while i < text.len() {
+        if text[i] == 10 {
+            return i + 1 - at;
+        }
+        i += 1;
+    }
+    i - at
+}
+
+// A text, and the index of the next line.
+pub struct Reader<'a> {
+    pub text: &'a [u8],
+    pub at: usize,
+}
+
+// The whole text is still to be read.
+pub fn new<'a>(text: &'a [u8]) -> Reader<'a>
+    ensures { λ r. ⌜ (r .text ≡ text .entry) × (r .at ≡ 0) ⌝ }
+{
+    Reader { text, at: 0 }
+}
+
+// The next line is taken: the reader stands behind it.
+pub fn next_line<'a>(r: Reader<'a>) -> Reader<'a>
+    ensures { λ q. ⌜ (q .text ≡ r .entry .text) × (q .at ≡ r .entry .at + lineLength (drop (r .entry .at) (now (r .entry .text)))) ⌝ }
+{
+    let len = line_length(r.text, r.at);
+    Reader {
+        text: r.text,
+        at: r.at + len,
+    }
+}
