@@ -1,10 +1,11 @@
 -- House files of document 01: what a text says, or the first refusal and its line.
-use Prim.Native.Nat.{ℕ, zero, suc, _+_, _*_, _%_}
+use Prim.Native.Nat.{ℕ, zero, suc, _+_, _*_, _/_, _%_}
 use mathlib.Core.Bool.{Bool, true, false, _&&_, _||_}
 use mathlib.Core.List.{List, [], _∷_, _++_}
 use mathlib.Core.Option.{none, some}
 use lib.Dec.{eqb, ltb, leb}
 use lib.ListN.{length, getD, take, drop}
+use Rattle.base.specs.Limits.{mostClauseLines, mostDigits}
 use Rattle.text.specs.Lines.{lines}
 use Rattle.house.specs.Text.{bytes, sum, number}
 
@@ -86,7 +87,7 @@ entered rooms r kind frame =
           | true ↦ on (record { stage = 16; n = r .n; clauses = r .clauses; start = r .start; step = r .step; bad = r .bad })
           | false ↦ refuse 13
         ]
-        | false ↦ elim (ltb (r .clauses) 1024 && roomFor rooms r kind) [ true ↦ on (withClause r kind (clauseOf kind frame)) | false ↦ refuse 12 ]
+        | false ↦ elim (ltb (r .clauses) mostClauseLines && roomFor rooms r kind) [ true ↦ on (withClause r kind (clauseOf kind frame)) | false ↦ refuse 12 ]
       ]
     ]
 
@@ -106,7 +107,7 @@ unfoldable pub lineTaken : Rooms → Reading → List ℕ → Taken
 lineTaken rooms r line =
     elim (bytes line) [
       | none ↦ refuse 8
-      | some frame ↦ elim (eqb (length frame) 0 || ltb 18 (length frame)) [ true ↦ refuse 8 | false ↦ judged rooms r frame ]
+      | some frame ↦ elim (eqb (length frame) 0 || ltb (mostDigits / 2) (length frame)) [ true ↦ refuse 8 | false ↦ judged rooms r frame ]
     ]
 
 -- what a text says: everything that was read, or the refusal and its line

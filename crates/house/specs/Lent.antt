@@ -6,6 +6,7 @@ use mathlib.Core.Option.{some}
 use mathlib.Core.Path.{_≡_}
 use lib.Dec.{eqb, ltb, leb}
 use lib.ListN.{length, getD, take, drop}
+use Rattle.base.specs.Limits.{mostClauseLines}
 use Rattle.stores.specs.Over.{Lies}
 use Rattle.text.specs.Lines.{lines}
 use Rattle.house.specs.Text.{digit, bytes}
@@ -48,7 +49,7 @@ pub record FrameAt (text : List ℕ) (i len count : ℕ) : Type 0 where
 abbrev pub takenAs : Rooms → Reading → Line → Taken
 takenAs rooms r (Size n) = on (record { stage = 1; n = n; clauses = r .clauses; start = r .start; step = r .step; bad = r .bad })
 takenAs rooms r (Clause kind ones zeros) =
-    elim (ltb (r .clauses) 1024 && roomFor rooms r kind) [ true ↦ on (withClause r kind (ones ∷ (zeros ∷ []))) | false ↦ refuse 12 ]
+    elim (ltb (r .clauses) mostClauseLines && roomFor rooms r kind) [ true ↦ on (withClause r kind (ones ∷ (zeros ∷ []))) | false ↦ refuse 12 ]
 takenAs rooms r (Count count) =
     elim (eqb count (r .clauses)) [
       | true ↦ on (record { stage = 16; n = r .n; clauses = r .clauses; start = r .start; step = r .step; bad = r .bad })
@@ -68,7 +69,7 @@ pub record PutAs (store : List ℕ) (count ones zeros : ℕ) (done : Bool) (stor
   pub more : done ≡ true → (Lies (count + 2) store') × (take (count + 2) store' ≡ take count store ++ (ones ∷ (zeros ∷ [])))
 
 pub record Lie (p : Place) (l : Lists) : Type 0 where
-  pub most : p .clauses ≤ 1024
+  pub most : p .clauses ≤ mostClauseLines
   pub start : Lies (p .start) (l .start)
   pub step : Lies (p .step) (l .step)
   pub bad : Lies (p .bad) (l .bad)
@@ -87,7 +88,7 @@ readingOf p l =
 -- a clause more, with these counts of masks; refusal 12 as in the definition
 unfoldable pub oneMore : Bool → ℕ → Place → ℕ → ℕ → ℕ → Turn
 oneMore room stage p start step bad =
-    elim (ltb (p .clauses) 1024 && room) [
+    elim (ltb (p .clauses) mostClauseLines && room) [
       | true ↦ On (record { stage = stage; n = p .n; clauses = p .clauses + 1; start = start; step = step; bad = bad })
       | false ↦ Refused 12
     ]

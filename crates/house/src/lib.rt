@@ -56,6 +56,9 @@ struct Progress {
 
 // ---- a line by itself
 
+// The most bytes of a line, its line feed among them.
+const MOST_LINE: usize = base::MOST_DIGITS + 1;
+
 // The value of a digit, 16 if it is none.
 fn digit_value(c: u8) -> u32
     ensures { λ r. ⌜ r ≡ digit c ⌝ }
@@ -82,7 +85,7 @@ fn frame_length(text: &[u8], at: usize, len: usize) -> usize
     requires { ⌜ LineAt (now text) at len ⌝ }
     ensures { λ r. ⌜ FrameAt (now (text .entry)) at len r ⌝ }
 {
-    if 37 < len {
+    if MOST_LINE < len {
         return 0;
     }
     if len % 2 == 0 {
@@ -220,7 +223,7 @@ fn put(store: &mut [u64], count: usize, ones: u64, zeros: u64) -> bool
 fn one_more(room: bool, stage: u32, p: Place, start: usize, step: usize, bad: usize) -> Turn
     ensures { λ r. ⌜ r ≡ oneMore room stage p start step bad ⌝ }
 {
-    if 1024 <= p.clauses {
+    if base::MOST_CLAUSE_LINES <= p.clauses {
         return Turn::Refused(12);
     }
     if !room {
