@@ -7,10 +7,10 @@ use native.Mathlib.Nat.{div-one}
 use native.Mathlib.Numerals.{add-one}
 use lib.ListN.{length, getD, take}
 use lib.Seq.{take-suc}
+use Rattle.text.proofs.Laying.{writes-then}
+use Rattle.text.specs.Writing.{Writes}
 use Rattle.answer.specs.Output.{lineOf, one, two, four}
 use Rattle.answer.specs.Answer.{stateLines, verdictLines, gaveUpLine, refusalLine}
-use Rattle.answer.specs.Promise.{Writes}
-use Rattle.answer.proofs.Laying.{writes-then}
 
 -- ---- a number in bytes
 one-is : (x : ℕ) {a : ℕ} → a ≡ x / 2 ^ 0 % 256 → a ∷ [] ≡ one x

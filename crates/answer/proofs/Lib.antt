@@ -1,5 +1,4 @@
 -- The root of the laws.
-pub mod Laying
 pub mod Lines
 pub mod Frames
 pub mod Outcomes

@@ -7,10 +7,10 @@ use native.Mathlib.Numerals.{add-one}
 use native.Mathlib.Omega.{arith}
 use lib.ListN.{length, getD, take, length-append}
 use lib.Seq.{take-suc}
+use Rattle.text.proofs.Laying.{writes-then}
+use Rattle.text.specs.Writing.{Writes}
 use Rattle.house.specs.Text.{sum}
 use Rattle.answer.specs.Output.{letter, digits, sumByte, lineOf}
-use Rattle.answer.specs.Promise.{Writes}
-use Rattle.answer.proofs.Laying.{writes-then}
 
 -- ---- bytes
 digits-append : (v w : List ℕ) → digits (v ++ w) ≡ digits v ++ digits w

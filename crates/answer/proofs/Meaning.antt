@@ -5,6 +5,7 @@ use mathlib.Core.List.{List}
 use mathlib.Core.Path.{_≡_, refl, sym, ap, _∙_}
 use native.Mathlib.Omega.{arith}
 use lib.Dec.{ltb}
+use Rattle.text.specs.Writing.{Writes}
 use Rattle.base.proofs.Tests.{test}
 use Rattle.ic3.specs.Model.{Model}
 use Rattle.ic3.specs.Demands.{Safe, Unsafe}
@@ -17,7 +18,7 @@ use Rattle.house.specs.File as house
 use Rattle.answer.specs.Output.{letter, digits, lineOf}
 use Rattle.answer.specs.Answer.{verdictLines, gaveUpLine, refusalLine, callLines, scanStores, systemLines}
 use Rattle.answer.specs.Answer.{clauseRooms, systemIn, saidLines, answered}
-use Rattle.answer.specs.Promise.{Writes, Begins, Shows, Answers}
+use Rattle.answer.specs.Promise.{Begins, Shows, Answers}
 use Rattle.answer.proofs.Short.{answered-short}
 use Rattle.answer.proofs.Limits.{answered-cut, refused-line, file-number}
 

@@ -5,6 +5,7 @@ use mathlib.Core.List.{List}
 use mathlib.Core.Path.{_≡_, refl, ap, _∙_}
 use native.Mathlib.Omega.{arith}
 use lib.ListN.{length, take, replicate, length-append, length-replicate}
+use Rattle.text.specs.Writing.{Writes}
 use Rattle.stores.proofs.Over.{over-front}
 use Rattle.stores.specs.Over.{over}
 use Rattle.system.specs.System.{System, systemOf}
@@ -13,7 +14,7 @@ use Rattle.house.specs.Promise.{Lists, lists, roomsOf, filled, Result, resultOf
 use Rattle.house.specs.declared.House.{House}
 use Rattle.house.proofs.Limits.{Limited, said-limited}
 use Rattle.answer.specs.Answer.{refusalLine, clauseRooms, systemIn, systemLines}
-use Rattle.answer.specs.Promise.{Writes, Answers}
+use Rattle.answer.specs.Promise.{Answers}
 use Rattle.answer.proofs.Meaning.{answered-file, answered-refused, answers}
 
 over-within : (front store : List ℕ) → length front ≤ length (over front store)

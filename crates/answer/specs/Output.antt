@@ -31,10 +31,3 @@ two x = x / 2 ^ 8 % 256 ∷ one x
 
 unfoldable pub four : ℕ → List ℕ
 four x = x / 2 ^ 24 % 256 ∷ (x / 2 ^ 16 % 256 ∷ two x)
-
--- w written over a buffer from index i on, as far as the buffer reaches
-unfoldable pub laid : ℕ → List ℕ → List ℕ → List ℕ
-laid i w [] = []
-laid zero [] (b ∷ buffer) = b ∷ buffer
-laid zero (x ∷ w) (b ∷ buffer) = x ∷ laid zero w buffer
-laid (suc i) w (b ∷ buffer) = b ∷ laid i w buffer

@@ -4,6 +4,7 @@ use mathlib.Core.Bool.{true}
 use mathlib.Core.List.{List, [], _∷_}
 use mathlib.Core.Path.{_≡_}
 use lib.ListN.{length, take}
+use Rattle.text.specs.Writing.{Writes}
 use Rattle.base.specs.Limits.{scanAllowance}
 use Rattle.ic3.specs.Model.{Model}
 use Rattle.ic3.specs.Demands.{Safe, Unsafe, listed}
@@ -12,13 +13,7 @@ use Rattle.call.specs.Call.{called}
 use Rattle.call.specs.Promise.{stores, resultOf}
 use Rattle.call.specs.declared.Outcome.{Outcome}
 use Rattle.house.specs.File.{Reading, file, refused, said}
-use Rattle.answer.specs.Output.{laid}
 use Rattle.answer.specs.Answer.{verdictLines, callLines, scanStores, clauseRooms, systemIn, answered}
-
--- w was written into a buffer from index i on, and ends at index r
-pub record Writes (i : ℕ) (w before : List ℕ) (r : ℕ) (after : List ℕ) : Type 0 where
-  pub content : after ≡ laid i w before
-  pub end : r ≡ i + length w
 
 -- the lines of an outcome, with its evidence in front of the stores
 abbrev pub outcomeLines : Outcome → List ℕ → List ℕ → List ℕ

@@ -3,10 +3,11 @@ ghost use mathlib.Core.List.{[], _∷_};
 ghost use mathlib.Core.Path.{_≡_};
 ghost use Prim.Native.Nat.{_/_, _%_, _^_, _≤_, _<_};
 ghost use lib.ListN.{length};
+ghost use Rattle.text.specs.Writing.{Writes};
 ghost use Rattle.system.specs.System.{systemOf};
 ghost use Rattle.answer.specs.Output.{letter, digits, lineOf};
 ghost use Rattle.answer.specs.Answer.{stateLines, verdictLines, gaveUpLine, refusalLine, systemLines};
-ghost use Rattle.answer.specs.Promise.{Writes, outcomeLines, Answers};
+ghost use Rattle.answer.specs.Promise.{outcomeLines, Answers};
 
 // The byte of a digit.
 fn letter_of(d: u32) -> u8
@@ -24,9 +25,7 @@ fn put(out: &mut [u8], at: usize, byte: u8) -> usize
     requires { ⌜ at < 2 ^ 32 ⌝ }
     ensures { λ r. ⌜ Writes at (byte ∷ []) (now (out .entry)) r (now (out .exit)) ⌝ }
 {
-    if at < out.len() {
-        out[at] = byte;
-    }
+    text::put(out, at, byte);
     at + 1
 }
 

@@ -1,8 +1,10 @@
-// Texts by line, and a reader that keeps a text and its place in it.
+// Texts by line, a reader that keeps a text and its place in it, and writing into a lent buffer.
+ghost use mathlib.Core.List.{[], _∷_};
 ghost use mathlib.Core.Path.{_≡_};
 ghost use Prim.Native.Nat.{_+_};
 ghost use lib.ListN.{drop};
 ghost use Rattle.text.specs.Lines.{lineLength};
+ghost use Rattle.text.specs.Writing.{laid};
 
 // How many bytes the line at this index has, with its line feed; 0 where the text has ended.
 pub fn line_length(text: &[u8], at: usize) -> usize
@@ -39,5 +41,14 @@ pub fn next_line<'a>(r: Reader<'a>) -> Reader<'a>
     Reader {
         text: r.text,
         at: r.at + len,
+    }
+}
+
+// One byte at this index, if the buffer reaches so far.
+pub fn put(buffer: &mut [u8], at: usize, byte: u8)
+    ensures { λ _. ⌜ now (buffer .exit) ≡ laid at (byte ∷ []) (now (buffer .entry)) ⌝ }
+{
+    if at < buffer.len() {
+        buffer[at] = byte;
     }
 }

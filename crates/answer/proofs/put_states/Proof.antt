@@ -6,9 +6,9 @@ use native.Mathlib.Omega.{arith}
 use lib.ListN.{length, take}
 use lib.Seq.{take-all}
 use borrow.Author.Needs.{needs}
+use Rattle.text.proofs.Laying.{writes-none, writes-length}
+use Rattle.text.specs.Writing.{Writes}
 use Rattle.answer.specs.Answer.{stateLines}
-use Rattle.answer.specs.Promise.{Writes}
-use Rattle.answer.proofs.Laying.{writes-none, writes-length}
 use Rattle.answer.proofs.Lines.{line-end}
 use Rattle.answer.proofs.Frames.{writes-state, states-more}
 use Rattle.answer.proofs.put_states.Statement.{statement}

@@ -6,8 +6,7 @@ use mathlib.Core.Path.{_≡_, refl, sym, ap, _∙_}
 use native.Mathlib.Omega.{arith}
 use lib.ListN.{length, set, length-append}
 use lib.Seq.{set-out}
-use Rattle.answer.specs.Output.{laid}
-use Rattle.answer.specs.Promise.{Writes}
+use Rattle.text.specs.Writing.{laid, Writes}
 
 pub laid-length : (i : ℕ) (w buffer : List ℕ) → length (laid i w buffer) ≡ length buffer
 unfolding laid
@@ -22,11 +21,14 @@ laid-none i [] = refl
 laid-none zero (b ∷ buffer) = refl
 laid-none (suc i) (b ∷ buffer) = ap {B = List ℕ} (λ l. b ∷ l) (laid-none i buffer)
 
-laid-one : (i x : ℕ) (buffer : List ℕ) → laid i (x ∷ []) buffer ≡ set buffer i x
+pub laid-one : (i x : ℕ) (buffer : List ℕ) → laid i (x ∷ []) buffer ≡ set buffer i x
 unfolding laid
 laid-one i x [] = refl
 laid-one zero x (b ∷ buffer) = ap {B = List ℕ} (λ l. x ∷ l) (laid-none zero buffer)
 laid-one (suc i) x (b ∷ buffer) = ap {B = List ℕ} (λ l. b ∷ l) (laid-one i x buffer)
+
+pub laid-past : (i x : ℕ) (buffer : List ℕ) → length buffer ≤ i → laid i (x ∷ []) buffer ≡ buffer
+laid-past i x buffer h = laid-one i x buffer ∙ set-out buffer i x h
 
 laid-append : (i r : ℕ) (w v buffer : List ℕ) → r ≡ i + length w → laid r v (laid i w buffer) ≡ laid i (w ++ v) buffer
 unfolding laid
@@ -53,10 +55,3 @@ module _ {i : ℕ} {w before : List ℕ} {r : ℕ} {after : List ℕ} (first : W
 
 pub writes-none : (i : ℕ) (buffer : List ℕ) → Writes i [] buffer i buffer
 writes-none i buffer = record { content = sym (laid-none i buffer); end = omega arith }
-
--- one byte, if the buffer reaches so far
-pub writes-one : (i x : ℕ) (buffer : List ℕ) → Writes i (x ∷ []) buffer (i + 1) (set buffer i x)
-writes-one i x buffer = record { content = sym (laid-one i x buffer); end = refl }
-
-pub writes-past : (i x : ℕ) (buffer : List ℕ) → length buffer ≤ i → Writes i (x ∷ []) buffer (i + 1) buffer
-writes-past i x buffer h = rw (set-out buffer i x h) at (writes-one i x buffer)
