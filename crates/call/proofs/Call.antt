@@ -17,7 +17,8 @@ use Rattle.ic3.specs.Search.{Verdict, safe, unsafe, noRoom, spent, searched}
 use Rattle.ic3.specs.Demands.{Demand-2, Doomed, Number, Answered}
 use Rattle.ic3.proofs.Sound.{demand-2}
 use Rattle.ic3.proofs.Bound.{demand-3}
-use Rattle.ic3.proofs.Fit.{FitsEnding, ending-fits}
+use Rattle.ic3.specs.Shape.{FitsEnding}
+use Rattle.ic3.proofs.Shape.{ending-fits}
 use Rattle.system.specs.System.{System, model, refusalOf}
 use Rattle.call.specs.Call.{Stores, wrongStores, refused, Said, says-safe, says-unsafe, says-nothing, Result, result, leaves, ended, called}
 use Rattle.call.specs.Promise.{Right, Within}
@@ -153,13 +154,13 @@ leaves-lengths s front path a b =
       path = over-length path (s .path) b;
     }
 
-ended-lengths : (M : Model) (s : Stores) (q : ℕ) (v : Verdict) → length (s .states) + 2 ≤ length (s .path) → FitsEnding M (length (s .states)) v q
+ended-lengths : (s : Stores) (q : ℕ) (v : Verdict) → length (s .states) + 2 ≤ length (s .path) → FitsEnding (length (s .states)) v
     → Lengths s (ended s q v .after)
 unfolding ended
-ended-lengths M s q (safe evidence) h f = leaves-lengths s evidence [] f (omega arith)
-ended-lengths M s q (unsafe path) h f = leaves-lengths s [] path (omega arith) (omega arith)
-ended-lengths M s q spent h f = leaves-lengths s [] [] (omega arith) (omega arith)
-ended-lengths M s q noRoom h f = leaves-lengths s [] [] (omega arith) (omega arith)
+ended-lengths s q (safe evidence) h f = leaves-lengths s evidence [] f (omega arith)
+ended-lengths s q (unsafe path) h f = leaves-lengths s [] path (omega arith) (omega arith)
+ended-lengths s q spent h f = leaves-lengths s [] [] (omega arith) (omega arith)
+ended-lengths s q noRoom h f = leaves-lengths s [] [] (omega arith) (omega arith)
 
 pub called-lengths : (y : System) (s : Stores) (allowance : ℕ) → Lengths s (called y s allowance .after)
 called-lengths y s allowance = pick (refused y s) refl
@@ -167,21 +168,21 @@ called-lengths y s allowance = pick (refused y s) refl
     pick : (r : ℕ) → refused y s ≡ r → Lengths s (called y s allowance .after)
     pick zero e =
         rw (called-searches y s allowance e)
-        (ended-lengths (model y) s _ _ (stores-fitting s (refused-none y s e .1) .path) (ending-fits (model y) (length (s .states)) allowance))
+        (ended-lengths s _ _ (stores-fitting s (refused-none y s e .1) .path) (ending-fits (model y) (length (s .states)) allowance))
     pick (suc r) e = rw (called-refused y s allowance r e) (record { states = refl; levels = refl; path = refl })
 
 -- the evidence is longer than the room by two at most
-ended-evidence : (M : Model) (s : Stores) (q : ℕ) (v : Verdict) → FitsEnding M (length (s .states)) v q
+ended-evidence : (s : Stores) (q : ℕ) (v : Verdict) → FitsEnding (length (s .states)) v
     → length (ended s q v .evidence) ≤ length (s .states) + 2
 unfolding ended
-ended-evidence M s q (safe evidence) f = omega (arith, f)
-ended-evidence M s q (unsafe path) f = f
-ended-evidence M s q spent f = omega arith
-ended-evidence M s q noRoom f = omega arith
+ended-evidence s q (safe evidence) f = omega (arith, f)
+ended-evidence s q (unsafe path) f = f
+ended-evidence s q spent f = omega arith
+ended-evidence s q noRoom f = omega arith
 
 pub called-evidence : (y : System) (s : Stores) (allowance : ℕ) → length (called y s allowance .evidence) ≤ length (s .states) + 2
 called-evidence y s allowance = pick (refused y s) refl
   where
     pick : (r : ℕ) → refused y s ≡ r → length (called y s allowance .evidence) ≤ length (s .states) + 2
-    pick zero e = rw (called-searches y s allowance e) (ended-evidence (model y) s _ _ (ending-fits (model y) (length (s .states)) allowance))
+    pick zero e = rw (called-searches y s allowance e) (ended-evidence s _ _ (ending-fits (model y) (length (s .states)) allowance))
     pick (suc r) e = rw (called-refused y s allowance r e) (omega arith)

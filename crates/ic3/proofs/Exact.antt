@@ -13,11 +13,12 @@ use lib.ListN.{length}
 use Rattle.base.proofs.Tests.{test}
 use Rattle.ic3.specs.Model.{Model}
 use Rattle.ic3.specs.Search.{Entry, levelOf, put, states, Phase, look, settle, raise}
+use Rattle.ic3.specs.Shape.{Sits}
 use Rattle.ic3.specs.Demands.{listed, Doomed, Number, Bounded}
 use Rattle.ic3.specs.Exact.{exact}
 use Rattle.ic3.proofs.Store.{put-tidy, stored-put, put-new, total, total-low, total-cap, listed-none, states-fall}
 use Rattle.ic3.proofs.Frames.{leads-no-start}
-use Rattle.ic3.proofs.Sound.{Kept, Sits, Stands, level-low, duty-doomed}
+use Rattle.ic3.proofs.Sound.{Kept, Stands, level-low, duty-doomed}
 use Rattle.ic3.proofs.Cost.{bounded}
 use Rattle.ic3.proofs.ExactSums.{pushed-sum, opened-sum}
 use Rattle.ic3.proofs.ExactAccount.{Sown, Fresh, first, grew, lacks, Opened, Testing, C}
@@ -82,7 +83,7 @@ module _ (M : Model) (m : ℕ) (D : Number (Doomed M) m) where
       ) in
       omega arith
 
-  testing-more : (N : ℕ) (st : List Entry) (i s : ℕ) (todo : List ℕ) (q : ℕ) → Kept M (suc N) st → Sits M (suc N) st i s
+  testing-more : (N : ℕ) (st : List Entry) (i s : ℕ) (todo : List ℕ) (q : ℕ) → Kept M (suc N) st → Sits (suc N) st i s
       → Testing M N st i (s ∷ todo) q → suc q ≤ exact m
   testing-more N st i s todo q K w c =
       let h : 1 ≤ m = doomed-some s (tested-sown M m N st i s todo w q c .doomed) in

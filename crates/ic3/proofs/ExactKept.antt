@@ -13,8 +13,9 @@ use lib.ListN.{length}
 use Rattle.base.proofs.Tests.{test}
 use Rattle.ic3.specs.Model.{Model, Answers}
 use Rattle.ic3.specs.Search.{Entry, levelOf, put, states, Phase, look, settle, raise, wanted, go, judge, round, settled, found, deeper, kept, react}
+use Rattle.ic3.specs.Shape.{Tidy}
 use Rattle.ic3.specs.Demands.{listed, Doomed, Number}
-use Rattle.ic3.proofs.Store.{put-more, level-put, level-put-other, Tidy, put-tidy, Stored, stored-put, put-new, total, put-total, listed-none, listed-other, states-listed, states-all, inside-length}
+use Rattle.ic3.proofs.Store.{put-more, level-put, level-put-other, put-tidy, Stored, stored-put, put-new, total, put-total, listed-none, listed-other, states-listed, states-all, inside-length}
 use Rattle.ic3.proofs.Frames.{leads-level}
 use Rattle.ic3.proofs.Round.{round-lands, kept-lands}
 use Rattle.ic3.proofs.Sound.{Kept, Duty, Stands, grown, duty-doomed}

@@ -12,12 +12,13 @@ use lib.ListN.{length}
 use Rattle.base.proofs.Tests.{test, both}
 use Rattle.ic3.specs.Model.{Model, Least}
 use Rattle.ic3.specs.Search.{Entry, levelOf, put, states, R, raise, wanted, Move, tested}
+use Rattle.ic3.specs.Shape.{Tidy, Sits}
 use Rattle.ic3.specs.Demands.{listed}
 use Rattle.ic3.specs.Exact.{exact}
-use Rattle.ic3.proofs.Store.{level-put, level-put-other, Tidy, Stored, stored-put, put-old, total, put-total, listed-none, listed-other, states-listed, states-split, states-fall, above-put}
+use Rattle.ic3.proofs.Store.{level-put, level-put-other, Stored, stored-put, put-old, total, put-total, listed-none, listed-other, states-listed, states-split, states-fall, above-put}
 use Rattle.ic3.proofs.Frames.{inside-level}
 use Rattle.ic3.proofs.Round.{Lands, tested-lands, empty-level, level-head, taken-length}
-use Rattle.ic3.proofs.Sound.{Sits, grown}
+use Rattle.ic3.proofs.Sound.{grown}
 use Rattle.ic3.proofs.Cost.{Cheap}
 use Rattle.ic3.proofs.ExactAccount.{Sown, sown-later, Missing, missing-still, lacks, Testing, C}
 
@@ -99,7 +100,7 @@ module _ (M : Model) (m : ℕ) where
         })
 
   -- ---- one test
-  module _ (N : ℕ) (st : List Entry) (i s : ℕ) (todo : List ℕ) (w : Sits M (suc N) st i s) (q : ℕ) (p : Testing M N st i (s ∷ todo) q) where
+  module _ (N : ℕ) (st : List Entry) (i s : ℕ) (todo : List ℕ) (w : Sits (suc N) st i s) (q : ℕ) (p : Testing M N st i (s ∷ todo) q) where
     pub tested-sown : Sown M N s
     tested-sown = p .sown s (omega (arith, w .above, w .here))
 

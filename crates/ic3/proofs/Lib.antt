@@ -4,6 +4,7 @@ pub mod Store
 pub mod Frames
 pub mod Round
 pub mod Run
+pub mod Shape
 pub mod Sound
 pub mod Number
 pub mod Cost
@@ -13,7 +14,6 @@ pub mod ExactRound
 pub mod ExactKept
 pub mod Exact
 pub mod Bound
-pub mod Fit
 pub mod Sentences
 pub mod Canonical
 pub mod Chain

@@ -13,9 +13,10 @@ use lib.ListN.{length}
 use Rattle.base.proofs.Tests.{test, clash, both, first-false}
 use Rattle.ic3.specs.Model.{Model, least, Answers}
 use Rattle.ic3.specs.Search.{Entry, states}
+use Rattle.ic3.specs.Shape.{Tidy}
 use Rattle.ic3.specs.Demands.{Leads, listed, Doomed, Distinct, Number}
 use Rattle.ic3.proofs.Least.{least-answers}
-use Rattle.ic3.proofs.Store.{Tidy, Stored, listed-none, listed-head, listed-tail, listed-other, states-listed, states-distinct, states-all, inside-length}
+use Rattle.ic3.proofs.Store.{Stored, listed-none, listed-head, listed-tail, listed-other, states-listed, states-distinct, states-all, inside-length}
 use Rattle.ic3.proofs.Frames.{leads-state}
 
 -- two lists that have the same numbers, none twice, are equally long

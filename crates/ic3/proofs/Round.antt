@@ -12,8 +12,9 @@ use lib.Dec.{eqb, leb}
 use lib.ListN.{length}
 use Rattle.base.proofs.Tests.{test, clash}
 use Rattle.ic3.specs.Search.{Entry, levelOf, states, look, raise, at, safe, noRoom, Move, go, stop, judge, round, tested, settled, fits, kept}
+use Rattle.ic3.specs.Shape.{Tidy}
 use Rattle.ic3.specs.Demands.{listed}
-use Rattle.ic3.proofs.Store.{Tidy, fits-true, fits-false, listed-head, listed-other, states-listed, states-split, states-length}
+use Rattle.ic3.proofs.Store.{fits-true, fits-false, listed-head, listed-other, states-listed, states-split, states-length}
 
 -- no stored state has a level from i up to below j
 abbrev pub Empty : List Entry → ℕ → ℕ → Type 0

@@ -27,7 +27,7 @@ module _ (M : Model) (room allowance : ℕ) (P : Config → ℕ → Type 0) (Q :
   Turned q (go d) = P d q
   Turned q (stop v) = Q v q
 
-  run-keeps : ((c : Config) (q : ℕ) → P c q → Turned (suc q) (next M room c)) → ((c : Config) → P c allowance → Q spent allowance)
+  pub run-keeps : ((c : Config) (q : ℕ) → P c q → Turned (suc q) (next M room c)) → ((c : Config) → P c allowance → Q spent allowance)
       → (left : ℕ) (c : Config) (q : ℕ) → left + q ≡ allowance → P c q
       → Q (run left M room c q .verdict) (run left M room c q .questions)
   unfolding run

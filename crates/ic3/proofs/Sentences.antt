@@ -7,10 +7,11 @@ use native.Mathlib.Omega.{arith}
 use lib.ListN.{length}
 use Rattle.base.proofs.Tests.{clash}
 use Rattle.ic3.specs.Model.{Model}
-use Rattle.ic3.specs.Search.{Entry, look, Config, at, Verdict, safe, unsafe, noRoom, spent, Move, go, stop, next, Ending, run, searched}
+use Rattle.ic3.specs.Search.{Entry, look, settle, Config, at, Verdict, safe, unsafe, noRoom, spent, Move, go, stop, next, Ending, run, searched}
+use Rattle.ic3.specs.Shape.{Placed}
 use Rattle.ic3.specs.Demands.{Reach, starts, steps, IsPath, Demand-2, Doomed, Number, Answered}
 use Rattle.ic3.proofs.Frames.{leads-state}
-use Rattle.ic3.proofs.Sound.{Duty, demand-2}
+use Rattle.ic3.proofs.Sound.{demand-2}
 use Rattle.ic3.proofs.Bound.{bound}
 
 -- If I has no solution, no state is reachable, and the answer is safe.
@@ -35,9 +36,8 @@ module _ (M : Model) (no-start : (s : ℕ) → s < M .size → M .start s ≡ fa
       pick spent d a = absurd a
 
 -- The path is t, then the states of the open duties from level 1 up to N, so N + 1 states.
-pub path-states : (M : Model) (N : ℕ) (st : List Entry) (s : ℕ) (ds : List ℕ) (t : ℕ) → Duty M N st 0 s ds
-    → length (t ∷ (s ∷ ds)) ≡ suc N
-path-states M N st s ds t w = omega (arith, w .count)
+pub path-states : (N : ℕ) (st : List Entry) (s : ℕ) (ds : List ℕ) (t : ℕ) → Placed N st (settle 0 s ds) → length (t ∷ (s ∷ ds)) ≡ suc N
+path-states N st s ds t w = omega (arith, w)
 
 -- Before each ask, if the allowance is used up, the call ends: no search asks more questions than it has leave for.
 module _ (M : Model) (room : ℕ) where

@@ -1,7 +1,7 @@
 -- Demand 2. At each question the store is tidy, its levels are frames (Frames), and where a duty is being settled, its state leads to a bad
 -- one through the states of the open duties above it, each of which sits below its level. Each answer keeps that, or ends the search with
 -- evidence that is right: a gap in the levels, or a start state in front of the open duties. Assumes nothing.
-use Prim.Native.Nat.{ℕ, zero, suc, _+_, _≤_, _<_}
+use Prim.Native.Nat.{ℕ, zero, suc, _≤_, _<_}
 use mathlib.Core.Bool.{false, _&&_}
 use mathlib.Core.List.{List, [], _∷_}
 use mathlib.Core.Option.{Option, none, some}
@@ -9,13 +9,13 @@ use mathlib.Core.Path.{_≡_, sym, _∙_}
 use native.Mathlib.Omega.{arith}
 use borrow.Author.Tests.{leb-true, leb-false, lt-leb, eqb-true, eqb-false}
 use lib.Dec.{eqb, leb}
-use lib.ListN.{length}
 use Rattle.base.proofs.Tests.{test, clash, both, first-false}
 use Rattle.ic3.specs.Model.{Model, least, Least, Answers}
 use Rattle.ic3.specs.Search.{Entry, levelOf, put, states, R, Phase, look, settle, raise, Config, at, wanted, Verdict, spent, Move, go, stop, settled, tested, found, deeper, react, next, searched}
+use Rattle.ic3.specs.Shape.{Tidy, Sits, Placed}
 use Rattle.ic3.specs.Demands.{Leads, listed, Safe, Demand-2, Doomed}
 use Rattle.ic3.proofs.Least.{least-answers}
-use Rattle.ic3.proofs.Store.{level-put, level-put-other, Tidy, put-tidy, Stored, stored-put, states-listed}
+use Rattle.ic3.proofs.Store.{level-put, level-put-other, put-tidy, Stored, stored-put, states-listed}
 use Rattle.ic3.proofs.Frames.{Frames, leads-state, path-hit, inside-level, frames-none, hit-late, leads-no-start, frames-grown, frames-raised, gap-excludes, excludes-never}
 use Rattle.ic3.proofs.Round.{Lands, round-lands, tested-lands, kept-lands, empty-level, level-head}
 use Rattle.ic3.proofs.Run.{Turned, searched-keeps}
@@ -34,22 +34,16 @@ module _ (M : Model) where
 
   -- the duty (s, k + 1) is being settled, below the open duties ds
   pub record Duty (N : ℕ) (st : List Entry) (k s : ℕ) (ds : List ℕ) : Type 0 where
-    pub count : N ≡ suc (k + length ds)
+    pub count : Placed N st (settle k s ds)
     pub leads : Leads M s ds
     pub under : Under (levelOf st) k (s ∷ ds)
-
-  -- step 4 tests s at level i
-  pub record Sits (N : ℕ) (st : List Entry) (i s : ℕ) : Type 0 where
-    pub above : 1 ≤ i
-    pub below : i < N
-    pub here : levelOf st s ≡ i
 
   abbrev pub Stands : ℕ → List Entry → Phase → Type 0
   Stands N st look = Unit {0}
   Stands N st (settle k s ds) = Duty N st k s ds
   Stands N st (raise i s todo) = Sits N st i s
 
-  -- what every configuration of a search keeps, and what its ending is
+  -- what every configuration of a search from the beginning keeps of this model, and what its ending is; that it has the shape is Shape
   abbrev pub Fine : Move → Type 0
   Fine (go c) = Kept (c .N) (c .store) × Stands (c .N) (c .store) (c .phase)
   Fine (stop v) = Demand-2 M v

@@ -11,6 +11,7 @@ use lib.Dec.{eqb, leb, ltb}
 use lib.ListN.{length}
 use Rattle.base.proofs.Tests.{test, clash}
 use Rattle.ic3.specs.Search.{Entry, levelOf, put, states, fits}
+use Rattle.ic3.specs.Shape.{Tidy}
 use Rattle.ic3.specs.Demands.{listed, Distinct}
 
 -- ---- levels
@@ -32,11 +33,6 @@ level-put-other (x ∷ es) s k t d =
     (rw (ne-eqb (x .state) t (λ q. d (sym q ∙ eqb-true (x .state) s e)), levelOf))))
     (λ e. rw (e, put)
     (test (eqb (x .state) t) (λ f. rw (f, levelOf)) (λ f. rw (f, levelOf) (level-put-other es s k t d))))
-
--- each level is at least 1, and no state is stored twice
-abbrev pub Tidy : List Entry → Type 0
-Tidy [] = Unit {0}
-Tidy (e ∷ es) = (1 ≤ e .level) × (levelOf es (e .state) ≡ 0) × Tidy es
 
 pub put-tidy : (st : List Entry) (s k : ℕ) → 1 ≤ k → Tidy st → Tidy (put st s k)
 unfolding levelOf put

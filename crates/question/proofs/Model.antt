@@ -16,7 +16,7 @@ use Rattle.masks.proofs.Somewhere.{somewhere-first}
 use Rattle.ic3.specs.Model.{least}
 use Rattle.ic3.specs.Search.{levelOf, R, Phase, look, wanted}
 use Rattle.ic3.proofs.Least.{least-same}
-use Rattle.ic3.proofs.Store.{Tidy}
+use Rattle.ic3.specs.Shape.{Tidy}
 use Rattle.system.specs.System.{System, model}
 use Rattle.question.specs.Question.{excluded, inside, badIn, stepIn}
 use Rattle.question.specs.Stored.{stored}

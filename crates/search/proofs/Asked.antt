@@ -8,13 +8,14 @@ use mathlib.Core.Path.{_≡_, refl, sym, ap, _∙_}
 use native.Mathlib.Omega.{arith}
 use lib.ListN.{length, take, getD}
 use lib.Seq.{length-take-le}
-use Rattle.ic3.proofs.Store.{Tidy}
+use Rattle.ic3.specs.Shape.{Tidy}
 use Rattle.ic3.specs.Search.{levelOf, R, Phase, look, wanted, at, react, next}
 use Rattle.system.specs.System.{System, model}
 use Rattle.question.specs.Question.{badIn, stepIn}
 use Rattle.question.specs.Stored.{stored}
 use Rattle.question.proofs.Model.{bad-asked, step-asked}
-use Rattle.search.specs.Lent.{window, storeOf, Asks}
+use Rattle.search.specs.Lent.{window, storeOf}
+use Rattle.search.specs.Contracts.{Asks}
 
 -- a window from the second entry on is one of the tails
 window-tails : (left i x k : ℕ) (ss ls : List ℕ) → window left (suc i) (x ∷ ss) (k ∷ ls) ≡ window left i ss ls
@@ -31,11 +32,17 @@ stored-fronts (suc count) (x ∷ ss) (k ∷ ls) h l =
     rw (window-tails count 0 x k ss ls) (ap (λ w. record { state = x; level = k } ∷ w) (stored-fronts count ss ls (omega arith) (omega arith)))
 
 module _ (y : System) (count : ℕ) (ss ls : List ℕ) (a : Asks (y .n) count ss ls) where
+  levels-within : count ≤ length ls
+  levels-within = rw (a .holds .same) (a .holds .within)
+
   same : length (take count ss) ≤ length (take count ls)
-  same = rw (length-take-le count ss (a .states), length-take-le count ls (a .levels)) (omega arith)
+  same = rw (length-take-le count ss (a .holds .within), length-take-le count ls levels-within) (omega arith)
+
+  fronts : stored (take count ss) (take count ls) ≡ storeOf count ss ls
+  fronts = stored-fronts count ss ls (a .holds .within) levels-within
 
   fronts-tidy : Tidy (stored (take count ss) (take count ls))
-  fronts-tidy = rw (stored-fronts count ss ls (a .states) (a .levels)) (a .tidy)
+  fronts-tidy = rw fronts (a .tidy)
 
   -- an answer of steps 1 and 2, taken in
   pub look-next : (room N : ℕ) (o : Option ℕ) → o ≡ badIn (y .n) (y .start) (y .bad) (take count ss) (take count ls) N
@@ -43,7 +50,7 @@ module _ (y : System) (count : ℕ) (ss ls : List ℕ) (a : Asks (y .n) count ss
   unfolding next
   look-next room N o e =
       ap (react room N (storeOf count ss ls) look)
-      (sym (e ∙ (rw (stored-fronts count ss ls (a .states) (a .levels)) at (bad-asked y (take count ss) (take count ls) (a .small) same fronts-tidy N))))
+      (sym (e ∙ (rw fronts at (bad-asked y (take count ss) (take count ls) (a .small) same fronts-tidy N))))
 
   -- an answer of steps 3 and 4, in each phase that asks for a state of R(i) which steps to s
   pub step-next : (room N i s : ℕ) (p : Phase) (o : Option ℕ)
@@ -52,6 +59,5 @@ module _ (y : System) (count : ℕ) (ss ls : List ℕ) (a : Asks (y .n) count ss
       → next (model y) room (at N (storeOf count ss ls) p) ≡ react room N (storeOf count ss ls) p o
   unfolding next
   step-next room N i s p o h e =
-      let f = stored-fronts count ss ls (a .states) (a .levels) in
       ap (react room N (storeOf count ss ls) p)
-      (sym (e ∙ (rw f at (step-asked y (take count ss) (take count ls) (a .small) same fronts-tidy N i s p (rw f h)))))
+      (sym (e ∙ (rw fronts at (step-asked y (take count ss) (take count ls) (a .small) same fronts-tidy N i s p (rw fronts h)))))

@@ -8,22 +8,17 @@ use lib.Dec.{leb}
 use lib.ListN.{length, getD, take, drop}
 use lib.Seq.{drop-cons, length-take-le}
 use Rattle.stores.proofs.Over.{over-same, over-front}
-use Rattle.stores.specs.Over.{over}
 use Rattle.ic3.specs.Search.{states}
 use Rattle.call.specs.Call.{Stores, says-nothing, result, leaves, ended}
-use Rattle.search.specs.Lent.{storeOf, part, verdictOf, Closes}
-use Rattle.search.specs.declared.End.{End}
-use Rattle.search.specs.declared.End.the-variants.{Safe, Unsafe}
-use Rattle.call.specs.declared.Verdict.{Verdict}
+use Rattle.search.specs.Lent.{storeOf, part, verdictOf}
+use Rattle.call.specs.Promise.{stores}
+use Rattle.search.specs.Contracts.{Finishes, Closes}
+use Rattle.search.specs.declared.react.Verdict.{Verdict}
+use Rattle.search.specs.declared.react.Verdict.the-variants.{Safe, Unsafe}
+use Rattle.call.specs.declared.Verdict as call
 use Rattle.call.specs.declared.Verdict.the-variants.{SafeBy, UnsafeBy, Neither}
 
 -- ---- parts
--- a part has as many numbers as it counts
-pub part-length : (left i : ℕ) (xs : List ℕ) → length (part left i xs) ≡ left
-unfolding part
-part-length zero i xs = refl
-part-length (suc left) i xs = ap suc (part-length left (suc i) xs)
-
 -- number by number, a part is what stands from its index on
 part-drop : (left i : ℕ) (xs : List ℕ) → left + i ≤ length xs → part left i xs ≡ take left (drop i xs)
 unfolding part
@@ -35,51 +30,56 @@ pub part-take : (k : ℕ) (xs : List ℕ) → k ≤ length xs → part k 0 xs �
 part-take k xs h = part-drop k 0 xs (omega arith)
 
 -- ---- the four ends
--- with `mid` for the states, keeping `front` of them and `len` of the path closes the end
-pub record Closable (s : Stores) (e : End) (asked : ℕ) (mid : List ℕ) (front len number : ℕ) (verdict : Verdict) : Type 0 where
-  pub same : length mid ≡ length (s .states)
-  pub front-within : front ≤ length mid
-  pub len-within : len ≤ length (s .path)
-  pub closes : (ss ls path : List ℕ) → ss ≡ over (take front mid) mid → ls ≡ over [] (s .levels) → path ≡ over (take len (s .path)) (s .path)
-      → Closes s e asked (record { number = number; verdict = verdict; questions = asked }) (record { states = ss; levels = ls; path = path })
+pub stores-same : {ss ss' ls ls' path path' : List ℕ} → ss ≡ ss' → ls ≡ ls' → path ≡ path' → stores ss ls path ≡ stores ss' ls' path'
+stores-same a l p = rw (a, l, p)
 
-module _ (s : Stores) (e : End) (asked : ℕ) where
+-- with `mid` for the states, keeping `front` of them and `len` of the path closes the verdict
+pub record Closable (s : Stores) (v : Verdict) (asked : ℕ) (mid : List ℕ) (front len number : ℕ) (verdict : call.Verdict) : Type 0 where
+  pub same : length mid ≡ length (s .states)
+  pub finishes : Finishes front len (stores mid (s .levels) (s .path))
+  pub closes : (after : Stores) → after ≡ leaves (stores mid (s .levels) (s .path)) (take front mid) (take len (s .path))
+      → Closes s v asked (record { number = number; verdict = verdict; questions = asked }) after
+
+module _ (s : Stores) (v : Verdict) (asked : ℕ) where
   -- safe: the states kept stand at the front of a store as long as before
-  pub closes-safe : (i count front : ℕ) (mid : List ℕ) → e ≡ Safe i count → take front mid ≡ states (leb i) (storeOf count (s .states) (s .levels))
-      → front ≤ length mid → length mid ≡ length (s .states) → Closable s e asked mid front 0 0 (SafeBy front)
+  pub closes-safe : (i count front : ℕ) (mid : List ℕ) → v ≡ Safe i count → take front mid ≡ states (leb i) (storeOf count (s .states) (s .levels))
+      → front ≤ length mid → length mid ≡ length (s .states) → Closable s v asked mid front 0 0 (SafeBy front)
   unfolding ended leaves
   closes-safe i count front mid q k h m =
       let n = length-take-le front mid h in
       record {
         same = m;
-        front-within = h;
-        len-within = omega arith;
-        closes = λ ss ls path a l p. rw q
-            (rw (sym k) (rw (a, l, p, over-front front (take front mid) mid n, over-same (take front mid) mid (s .states) m), sym n));
+        finishes = record { states = h; path = omega arith };
+        closes = λ after e. rw q
+            (record {
+              equation = rw (sym k) (rw (e, over-front front (take front mid) mid n, over-same (take front mid) mid (s .states) m));
+              evidence-length = rw (sym k) (sym n);
+            });
       }
 
   -- unsafe: the path stands at the front of its store
-  pub closes-unsafe : (k : ℕ) → e ≡ Unsafe k → k ≤ length (s .path) → Closable s e asked (s .states) 0 k 0 (UnsafeBy k)
+  pub closes-unsafe : (k : ℕ) → v ≡ Unsafe k → k ≤ length (s .path) → Closable s v asked (s .states) 0 k 0 (UnsafeBy k)
   unfolding ended leaves
   closes-unsafe k q h =
       let n = length-take-le k (s .path) h in
       record {
         same = refl;
-        front-within = omega arith;
-        len-within = h;
-        closes = λ ss ls path a l p. rw q
-            (rw (part-take k (s .path) h) (rw (a, l, p, over-front k (take k (s .path)) (s .path) n), sym n));
+        finishes = record { states = omega arith; path = h };
+        closes = λ after e. rw q
+            (record {
+              equation = rw (part-take k (s .path) h) (rw (e, over-front k (take k (s .path)) (s .path) n));
+              evidence-length = rw (part-take k (s .path) h) (sym n);
+            });
       }
 
   -- given up, with a number of its own: nothing is left
-  pub closes-neither : (t : End) (number : ℕ) → e ≡ t
-      → ended s asked (verdictOf t (s .states) (s .levels) (s .path)) ≡ result number says-nothing asked [] (leaves s [] [])
-      → Closable s e asked (s .states) 0 0 number Neither
+  pub closes-neither : (t : Verdict) (number : ℕ) → v ≡ t
+      → ended s asked (verdictOf t s) ≡ result number says-nothing asked [] (leaves s [] [])
+      → Closable s v asked (s .states) 0 0 number Neither
   unfolding leaves
   closes-neither t number q h =
       record {
         same = refl;
-        front-within = omega arith;
-        len-within = omega arith;
-        closes = λ ss ls path a l p. rw q (rw h (rw (a, l, p), refl));
+        finishes = record { states = omega arith; path = omega arith };
+        closes = λ after e. rw q (record { equation = rw h (rw e); evidence-length = rw h });
       }

@@ -12,9 +12,15 @@ use lib.Dec.{eqb}
 use lib.ListN.{length, getD, set}
 use lib.Seq.{getD-set-same, getD-set-other}
 use Rattle.base.proofs.Tests.{test}
-use Rattle.ic3.specs.Search.{Entry, look, settle, Config, at, noRoom, go, stop, put, settled, fits, kept}
-use Rattle.search.specs.Lent.{window, storeOf, duties, Absent, FirstAt, KeptAs}
-use Rattle.search.specs.declared.Kept.the-variants.{At, Full}
+use Rattle.ic3.specs.Search.{Entry, go, put, settled, fits, kept}
+use Rattle.call.specs.Call.{Stores}
+use Rattle.search.specs.Lent.{window, storeOf, duties, config}
+use Rattle.search.specs.Contracts.{Absent, FirstAt, KeptAs, Moves}
+use Rattle.search.specs.declared.store.Kept.the-variants.{At, Full}
+use Rattle.search.specs.declared.react.Phase.the-variants.{Look, Settle}
+use Rattle.search.specs.declared.react.Verdict.the-variants.{NoRoom}
+use Rattle.search.specs.declared.react.Move.{Move}
+use Rattle.search.specs.declared.react.Move.the-variants.{Go, Stop}
 use Rattle.search.proofs.Windows.{window-length, window-apart, duties-more, duties-end}
 
 -- the first entry has the state
@@ -84,7 +90,7 @@ module _ (count r : ℕ) (ss ls : List ℕ) (s k : ℕ) (w : FirstAt ss 0 count 
   unfolding storeOf
   kept-raised h =
       let e = put-found count 0 r ss ls s k (omega arith) (omega arith) (w .here h) (w .before) (omega arith) in
-      (fits-window (length ss) count ss (set ls r k) (put (window count 0 ss ls) s k) e c, e, c)
+      record { fit = fits-window (length ss) count ss (set ls r k) (put (window count 0 ss ls) s k) e c; store = e; within = c }
 
   -- s is stored behind the others
   pub kept-new : count ≤ r → count < length ss → KeptAs ss ls count s k (set ss count s) (set ls count k) (At (count + 1))
@@ -94,7 +100,11 @@ module _ (count r : ℕ) (ss ls : List ℕ) (s k : ℕ) (w : FirstAt ss 0 count 
       let e : window (suc count) 0 (set ss count s) (set ls count k) ≡ put (window count 0 ss ls) s k =
       rw z at (put-new count 0 ss ls s k (λ m u v. w .before m u (omega arith)) (omega arith) (omega arith)) in
       rw add-one
-      (fits-window (length ss) (suc count) (set ss count s) (set ls count k) (put (window count 0 ss ls) s k) e (omega arith), e, omega arith)
+      (record {
+        fit = fits-window (length ss) (suc count) (set ss count s) (set ls count k) (put (window count 0 ss ls) s k) e (omega arith);
+        store = e;
+        within = omega arith;
+      })
 
   -- there is no room for s
   pub kept-full : count ≤ r → length ss ≤ count → KeptAs ss ls count s k ss ls Full
@@ -103,24 +113,26 @@ module _ (count r : ℕ) (ss ls : List ℕ) (s k : ℕ) (w : FirstAt ss 0 count 
       let e : length (put (window count 0 ss ls) s k) ≡ suc count = put-grows count 0 ss ls s k (λ m u v. w .before m u (omega arith)) in
       rw e (lt-leb (suc count) (length ss) (omega arith))
 
--- the duty above the settled one again
-pub settled-more : (N k : ℕ) (st : List Entry) (path : List ℕ) → k + 1 < N
-    → at N st (settle (k + 1) (getD path (suc (k + 1)) 0) (duties N (k + 1) path)) ≡ settled N st k (duties N k path)
-unfolding settled
-settled-more N k st path h = rw (add-one, duties-more N k path (omega arith))
+module _ (N k count : ℕ) (s : Stores) where
+  -- the duty above the settled one again
+  pub settled-more : k + 1 < N
+      → Moves (Go (config N count (Settle (k + 1)))) s (go (settled N (storeOf count (s .states) (s .levels)) k (duties N k (s .path))))
+  unfolding settled
+  settled-more h = record { onward = rw (add-one, duties-more N k (s .path) (omega arith)); bounded = tt }
 
--- the settled duty was the last
-pub settled-last : (N k : ℕ) (st : List Entry) (path : List ℕ) → N ≤ k + 1 → at N st look ≡ settled N st k (duties N k path)
-unfolding settled
-settled-last N k st path h = rw (duties-end N k path (omega arith))
+  -- the settled duty was the last
+  pub settled-last : N ≤ k + 1
+      → Moves (Go (config N count Look)) s (go (settled N (storeOf count (s .states) (s .levels)) k (duties N k (s .path))))
+  unfolding settled
+  settled-last h = record { onward = rw (duties-end N k (s .path) (omega arith)); bounded = tt }
 
 -- what fits is kept, and the duty settled
-pub kept-fits : (room N k : ℕ) (st now : List Entry) (ds : List ℕ) (c : Config) → fits room st ≡ true → now ≡ st → c ≡ settled N now k ds
-    → go c ≡ kept room N st k ds
+pub kept-fits : (room N k : ℕ) (st now : List Entry) (ds : List ℕ) (r : Move) (s : Stores) → fits room st ≡ true → now ≡ st
+    → Moves r s (go (settled N now k ds)) → Moves r s (kept room N st k ds)
 unfolding kept
-kept-fits room N k st now ds c f e g = rw (f, kept) (ap go (rw e at g))
+kept-fits room N k st now ds r s f e g = rw (f, kept) (rw e at g)
 
 -- what does not fit ends the search
-pub kept-not : (room N k : ℕ) (st : List Entry) (ds : List ℕ) → fits room st ≡ false → stop noRoom ≡ kept room N st k ds
+pub kept-not : (room N k : ℕ) (st : List Entry) (ds : List ℕ) (s : Stores) → fits room st ≡ false → Moves (Stop NoRoom) s (kept room N st k ds)
 unfolding kept
-kept-not room N k st ds f = rw (f, kept)
+kept-not room N k st ds s f = record { onward = rw (f, kept); bounded = tt }

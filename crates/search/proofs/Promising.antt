@@ -4,24 +4,22 @@ use Prim.Native.Nat.{ℕ, zero, suc}
 use mathlib.Core.Bool.{true}
 use mathlib.Core.List.{List, []}
 use mathlib.Core.Path.{_≡_, refl, sym, ap, _∙_}
-use native.Mathlib.Omega.{arith}
 use lib.ListN.{length}
 use Rattle.stores.proofs.Over.{over-same}
-use Rattle.ic3.specs.Search.{Verdict as Ending, safe, unsafe, noRoom, spent, searched}
-use Rattle.ic3.proofs.Fit.{FitsEnding, ending-fits}
+use Rattle.ic3.specs.Search.{safe, unsafe, noRoom, spent, searched}
+use Rattle.ic3.specs.Search as ic3
 use Rattle.ic3.proofs.Bound.{demand-3}
 use Rattle.system.specs.System.{System, model, refusalOf}
 use Rattle.system.proofs.Refusals.{size-right, refusal-none}
 use Rattle.call.specs.Call.{Stores, wrongStores, refused, leaves, ended, called}
-use Rattle.search.specs.Lent.{verdictOf, FitsEnd, Lends, Ends, Closing, Closes}
+use Rattle.search.specs.Lent.{verdictOf}
+use Rattle.search.specs.Contracts.{Lends, Ends, Closing, Closes}
 use Rattle.call.specs.Promise.{saidOf, lengthOf, resultOf, Promised}
-use Rattle.search.specs.declared.End.{End}
-use Rattle.search.specs.declared.End.the-variants.{Safe, Unsafe, NoRoom, Spent}
+use Rattle.search.specs.declared.react.Verdict.{Verdict}
 use Rattle.call.specs.declared.Outcome.{Outcome}
-use Rattle.call.specs.declared.Verdict.{Verdict}
+use Rattle.call.specs.declared.Verdict as call
 use Rattle.call.specs.declared.Verdict.the-variants.{SafeBy, UnsafeBy, Neither}
 use Rattle.call.proofs.Call.{refused-system, refused-stores, refused-none, called-refused, called-searches, called-within, called-right, stores-fitting, Lengths}
-use Rattle.search.proofs.Closing.{part-length}
 
 -- ---- how a search ends
 module _ (s s' : Stores) (w : Lengths s s') where
@@ -36,29 +34,16 @@ module _ (s s' : Stores) (w : Lengths s s') where
       )
 
   -- so does the whole result
-  pub ended-same : (q : ℕ) (v : Ending) → ended s' q v ≡ ended s q v
+  pub ended-same : (q : ℕ) (v : ic3.Verdict) → ended s' q v ≡ ended s q v
   unfolding ended
   ended-same q (safe evidence) = rw (leaves-same evidence [])
   ended-same q (unsafe path) = rw (leaves-same [] path)
   ended-same q noRoom = rw (leaves-same [] [])
   ended-same q spent = rw (leaves-same [] [])
 
-module _ {y : System} {room allowance : ℕ} {e : End} {asked : ℕ} {ss ls path : List ℕ} (w : Ends y room allowance e asked ss ls path) where
-  -- a path is longer than the room by at most two
-  pub ends-fit : FitsEnd e (length path)
-  ends-fit = pick e (rw (sym (w .verdict)) at (ending-fits (model y) room allowance))
-    where
-      pick : (e : End) → FitsEnding (model y) room (verdictOf e ss ls path) (searched (model y) room allowance .questions) → FitsEnd e (length path)
-      pick (Safe i count) f = tt
-      pick (Unsafe k) f = omega (arith, f, part-length k 0 path, w .lends .enough)
-      pick NoRoom f = tt
-      pick Spent f = tt
-
-  -- what `close` requires, since the search keeps the stores' lengths
-  pub ends-closing : Closing e ss ls path
-  ends-closing =
-      let l = w .lends in
-      record { same = rw (l .states) (l .levels); bounded = rw (l .states) (w .bounded); fits = ends-fit }
+-- what `close` requires, since a run keeps the stores' lengths
+pub ends-closing : {n room : ℕ} {ending : ic3.Ending} {v : Verdict} {asked : ℕ} {s : Stores} → Ends n room ending v asked s → Closing v s
+ends-closing w = record { same = w .lends .levels ∙ sym (w .lends .states); counted = w .counted }
 
 -- ---- the promise
 module _ (y : System) (lent : Stores) (allowance : ℕ) where
@@ -87,7 +72,7 @@ module _ (y : System) (lent : Stores) (allowance : ℕ) where
   stores-promised e w = refused-promised 3 _ (refused-stores y lent e w) refl
 
 -- what is not refused is lent as the search needs it
-pub lends : (y : System) (lent : Stores) → refused y lent ≡ 0 → Lends (y .n) (length (lent .states)) (lent .states) (lent .levels) (lent .path)
+pub lends : (y : System) (lent : Stores) → refused y lent ≡ 0 → Lends (y .n) (length (lent .states)) lent
 lends y lent h =
     let e = refused-none y lent h in
     let f = stores-fitting lent (e .1) in
@@ -99,14 +84,11 @@ lends y lent h =
       enough = f .path;
     }
 
-module _ {y : System} {lent : Stores} {allowance : ℕ} (h : refused y lent ≡ 0) {e : End} {asked : ℕ} {ss ls path : List ℕ}
-    (w : Ends y (length (lent .states)) allowance e asked ss ls path) (k : Lengths lent (record { states = ss; levels = ls; path = path })) where
-  -- the stores and the verdict which the search ended with
-  abbrev s : Stores
-  s = record { states = ss; levels = ls; path = path }
-
-  abbrev v : Ending
-  v = verdictOf e ss ls path
+module _ (y : System) {lent : Stores} (allowance : ℕ) (h : refused y lent ≡ 0) {e : Verdict} {asked : ℕ} {s : Stores}
+    (w : Ends (y .n) (length (lent .states)) (searched (model y) (length (lent .states)) allowance) e asked s) (k : Lengths lent s) where
+  -- the verdict which the search ended with, over the stores s
+  abbrev v : ic3.Verdict
+  v = verdictOf e s
 
   -- the call's result is that of the stores which the search ended with
   called-ends : called y lent allowance ≡ ended s asked v
@@ -117,10 +99,10 @@ module _ {y : System} {lent : Stores} {allowance : ℕ} (h : refused y lent ≡ 
   -- a search that ended and was closed: what it returns is the call's result, so what holds of the definition's search holds of it
   pub searched-promised : {o : Outcome} {after : Stores} → Closes s e asked o after → Promised y lent allowance o after
   searched-promised {o} {after} c =
-      let q : resultOf o after ≡ called y lent allowance = c .0 ∙ sym called-ends in
+      let q : resultOf o after ≡ called y lent allowance = c .equation ∙ sym called-ends in
       record {
         equation = q;
-        evidence-length = rw called-ends (c .1);
+        evidence-length = rw called-ends (c .evidence-length);
         demand-2 = rw (ap (λ r. r .said) q, ap (λ r. r .evidence) q) (called-right y lent allowance);
         demand-3 = λ m D. rw q (called-within y lent allowance m D);
         exists-m = demand-3 (model y) .exists;
@@ -128,7 +110,7 @@ module _ {y : System} {lent : Stores} {allowance : ℕ} (h : refused y lent ≡ 
 
 -- ---- the promise leaves no choice
 -- what is said and the evidence's length make the verdict
-verdict-same : (v w : Verdict) → saidOf v ≡ saidOf w → lengthOf v ≡ lengthOf w → v ≡ w
+verdict-same : (v w : call.Verdict) → saidOf v ≡ saidOf w → lengthOf v ≡ lengthOf w → v ≡ w
 verdict-same (SafeBy n) (SafeBy k) a b = ap SafeBy b
 verdict-same (SafeBy n) (UnsafeBy k) a b = cc
 verdict-same (SafeBy n) Neither a b = cc
@@ -140,7 +122,7 @@ verdict-same Neither (UnsafeBy k) a b = cc
 verdict-same Neither Neither a b = refl
 
 -- an outcome is its number, its verdict and its questions
-outcome-same : (n n' : ℕ) (v v' : Verdict) (q q' : ℕ) → n ≡ n' → v ≡ v' → q ≡ q'
+outcome-same : (n n' : ℕ) (v v' : call.Verdict) (q q' : ℕ) → n ≡ n' → v ≡ v' → q ≡ q'
     → _≡_ {A = Outcome} (record { number = n; verdict = v; questions = q }) (record { number = n'; verdict = v'; questions = q' })
 outcome-same n n' v v' q q' a b c = rw (a, b, c)
 

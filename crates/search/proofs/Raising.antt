@@ -9,13 +9,15 @@ use native.Mathlib.Omega.{arith}
 use native.Mathlib.Numerals.{add-one}
 use borrow.Author.Tests.{eqb-true, eqb-false}
 use lib.Dec.{eqb}
-use lib.ListN.{getD, set, take}
+use lib.ListN.{length, getD, set, take}
 use Rattle.base.proofs.Tests.{test}
 use Rattle.ic3.specs.Search.{levelOf, states, raise, wanted, at, put, react, next}
-use Rattle.ic3.proofs.Store.{Tidy, put-tidy}
+use Rattle.ic3.specs.Shape.{Tidy}
+use Rattle.ic3.proofs.Store.{put-tidy}
 use Rattle.system.specs.System.{System, model}
 use Rattle.question.specs.Question.{stepIn}
-use Rattle.search.specs.Lent.{window, storeOf, roundFrom, Absent, Asks}
+use Rattle.search.specs.Lent.{window, storeOf}
+use Rattle.search.specs.Contracts.{roundFrom, Absent, Raises}
 use Rattle.search.proofs.Windows.{window-apart}
 use Rattle.search.proofs.Keeping.{put-found}
 use Rattle.search.proofs.Rounds.{level-entry, round-below}
@@ -33,33 +35,35 @@ entry-first count j ss ls (suc left) m e h w l a b q =
     absurd (omega (arith, ap (levelOf (window left (suc m) ss ls)) z, w .1, r .0, r .1)))
     (λ p. entry-first count j ss ls left (suc m) (omega arith) h (w .2) l (omega (arith, eqb-false l m p)) b q)
 
--- a stored level is at least 1
-pub entry-level : (count i j : ℕ) (ss ls : List ℕ) → Tidy (storeOf count ss ls) → j < count → getD ls j 0 ≡ i → 1 ≤ i
-unfolding storeOf
-entry-level count i j ss ls w h e = rw e at (level-entry count ss ls j count 0 (omega arith) (omega arith) h w .1)
+module _ {n N count i j : ℕ} {ss ls : List ℕ} (w : Raises n N count i j ss ls) where
+  -- a stored level is at least 1
+  pub entry-level : 1 ≤ i
+  unfolding storeOf
+  entry-level = rw (w .here) at (level-entry count ss ls j count 0 (omega arith) (omega arith) (w .indexed) (w .asks .tidy) .1)
 
-module _ (y : System) (N count i j : ℕ) (ss ls : List ℕ) (a : Asks (y .n) count ss ls) (h : j < count) (l : i < N) where
   -- the entry gets the next level
   raised-store : storeOf count ss (set ls j (i + 1)) ≡ put (storeOf count ss ls) (getD ss j 0) (suc i)
   unfolding storeOf
   raised-store =
-      let b = a .levels in
+      let b = w .indexed in
+      let l : j < length ls = omega (arith, w .asks .holds .same, w .asks .holds .within) in
       rw (add-one i)
       (put-found count 0 j ss ls (getD ss j 0) (suc i) (omega arith) (omega arith) refl
-      (entry-first count j ss ls count 0 (omega arith) h (a .tidy)) (omega arith))
+      (entry-first count j ss ls count 0 (omega arith) b (w .asks .tidy)) l)
 
   -- the store stays tidy
   pub raised-tidy : Tidy (storeOf count ss (set ls j (i + 1)))
-  raised-tidy = rw raised-store (put-tidy (storeOf count ss ls) (getD ss j 0) (suc i) (omega arith) (a .tidy))
+  raised-tidy = rw raised-store (put-tidy (storeOf count ss ls) (getD ss j 0) (suc i) (omega arith) (w .asks .tidy))
 
+module _ (y : System) (N count i j : ℕ) (ss ls : List ℕ) (w : Raises (y .n) N count i j ss ls) where
   -- a state was found: on behind the entry
   pub raise-not : (room t : ℕ) → some t ≡ stepIn (y .n) (y .start) (y .step) (take count ss) (take count ls) i (getD ss j 0)
       → roundFrom N count i (j + 1) ss ls
       ≡ next (model y) room (at N (storeOf count ss ls) (raise i (getD ss j 0) (states (eqb i) (window (count - suc j) (suc j) ss ls))))
   unfolding react wanted
   raise-not room t q =
-      (rw (add-one j) (round-below N count ss ls i (suc j) l))
-      ∙ sym (step-next y count ss ls a room N i (getD ss j 0) (raise i (getD ss j 0) _) (some t) refl q)
+      (rw (add-one j) (round-below N count ss ls i (suc j) (w .below)))
+      ∙ sym (step-next y count ss ls (w .asks) room N i (getD ss j 0) (raise i (getD ss j 0) _) (some t) refl q)
 
   -- none was found: on behind the entry, with the entry's level raised
   pub raise-up : (room : ℕ) → none ≡ stepIn (y .n) (y .start) (y .step) (take count ss) (take count ls) i (getD ss j 0)
@@ -68,6 +72,6 @@ module _ (y : System) (N count i j : ℕ) (ss ls : List ℕ) (a : Asks (y .n) co
   unfolding react wanted
   raise-up room q =
       (rw (add-one j)
-      (round-below N count ss (set ls j (i + 1)) i (suc j) l
-      ∙ rw (raised-store, window-apart (count - suc j) (suc j) j ss ls (i + 1) (omega arith)) refl))
-      ∙ sym (step-next y count ss ls a room N i (getD ss j 0) (raise i (getD ss j 0) _) none refl q)
+      (round-below N count ss (set ls j (i + 1)) i (suc j) (w .below)
+      ∙ rw (raised-store w, window-apart (count - suc j) (suc j) j ss ls (i + 1) (omega arith)) refl))
+      ∙ sym (step-next y count ss ls (w .asks) room N i (getD ss j 0) (raise i (getD ss j 0) _) none refl q)

@@ -12,9 +12,10 @@ use lib.Dec.{eqb, leb, ltb}
 use lib.ListN.{getD}
 use Rattle.base.proofs.Tests.{test}
 use Rattle.ic3.specs.Search.{Entry, levelOf, states, look, raise, at, safe, go, stop, judge, round, tested}
-use Rattle.ic3.proofs.Store.{Tidy}
+use Rattle.ic3.specs.Shape.{Tidy}
 use Rattle.ic3.proofs.Round.{level-head}
-use Rattle.search.specs.Lent.{window, storeOf, roundFrom, Absent, FirstAt, LeastGap}
+use Rattle.search.specs.Lent.{window, storeOf}
+use Rattle.search.specs.Contracts.{roundFrom, Absent, FirstAt, LeastGap}
 
 -- ---- windows
 module _ (count : ℕ) (ss ls : List ℕ) where

@@ -7,38 +7,46 @@ use mathlib.Core.Path.{_≡_, refl, sym, ap, _∙_}
 use native.Mathlib.Omega.{arith}
 use native.Mathlib.Numerals.{add-one}
 use lib.ListN.{take}
-use Rattle.ic3.specs.Search.{look, settle, wanted, at, Move, put, round, found, deeper, kept, react, next}
+use Rattle.ic3.specs.Search.{look, settle, wanted, at, put, round, found, deeper, kept, react, next}
+use Rattle.ic3.specs.Search as ic3
 use Rattle.system.specs.System.{System, model}
 use Rattle.question.specs.Question.{badIn, stepIn}
-use Rattle.search.specs.Lent.{storeOf, roundFrom, Asks}
+use Rattle.call.specs.Call.{Stores}
+use Rattle.search.specs.Lent.{storeOf}
+use Rattle.search.specs.Contracts.{roundFrom, Asks, Moves}
+use Rattle.search.specs.declared.react.Move.{Move}
 use Rattle.search.proofs.Asked.{look-next, step-next}
 use Rattle.search.proofs.Rounds.{round-start}
 
-module _ (y : System) (count : ℕ) (ss ls : List ℕ) (a : Asks (y .n) count ss ls) where
+-- a move that is the definition's for the answer is the definition's for the question
+pub moves-to : {r : Move} {s : Stores} {m m' : ic3.Move} → m ≡ m' → Moves r s m → Moves r s m'
+moves-to e w = record { onward = w .onward ∙ e; bounded = w .bounded }
+
+module _ (y : System) (count : ℕ) (ss ls : List ℕ) (a : Asks (y .n) count ss ls) (room N : ℕ) where
   -- a bad state is found
-  pub look-some : (room N s : ℕ) (m : Move) → some s ≡ badIn (y .n) (y .start) (y .bad) (take count ss) (take count ls) N
-      → m ≡ found N (storeOf count ss ls) s → m ≡ next (model y) room (at N (storeOf count ss ls) look)
+  pub look-some : (s : ℕ) → some s ≡ badIn (y .n) (y .start) (y .bad) (take count ss) (take count ls) N
+      → found N (storeOf count ss ls) s ≡ next (model y) room (at N (storeOf count ss ls) look)
   unfolding react
-  look-some room N s m e g = g ∙ sym (look-next y count ss ls a room N (some s) e)
+  look-some s e = sym (look-next y count ss ls a room N (some s) e)
 
   -- with no bad state step 4 begins, and N is one more
-  pub look-none : (room N : ℕ) (m : Move) → none ≡ badIn (y .n) (y .start) (y .bad) (take count ss) (take count ls) N
-      → m ≡ roundFrom (N + 1) count 1 0 ss ls → m ≡ next (model y) room (at N (storeOf count ss ls) look)
+  pub look-none : none ≡ badIn (y .n) (y .start) (y .bad) (take count ss) (take count ls) N
+      → roundFrom (N + 1) count 1 0 ss ls ≡ next (model y) room (at N (storeOf count ss ls) look)
   unfolding react
-  look-none room N m e g =
+  look-none e =
       let z : suc N - 1 ≡ N = omega arith in
-      (rw (add-one N) at g)
-      ∙ (round-start (suc N) count ss ls (a .tidy) 1 (omega arith) (omega arith) ∙ ap (λ left. round (suc N) left 1 (storeOf count ss ls)) z)
-      ∙ sym (look-next y count ss ls a room N none e)
+      let begun = round-start (suc N) count ss ls (a .tidy) 1 (omega arith) (omega arith) in
+      (rw (add-one N) (begun ∙ ap (λ left. round (suc N) left 1 (storeOf count ss ls)) z)) ∙ sym (look-next y count ss ls a room N none e)
 
-  -- a state steps to that of the duty
-  pub settle-some : (room N k s t : ℕ) (ds : List ℕ) (m : Move) → some t ≡ stepIn (y .n) (y .start) (y .step) (take count ss) (take count ls) k s
-      → m ≡ deeper N (storeOf count ss ls) k s ds t → m ≡ next (model y) room (at N (storeOf count ss ls) (settle k s ds))
-  unfolding react wanted
-  settle-some room N k s t ds m e g = g ∙ sym (step-next y count ss ls a room N k s (settle k s ds) (some t) refl e)
+  module _ (k s : ℕ) (ds : List ℕ) where
+    -- a state steps to that of the duty
+    pub settle-some : (t : ℕ) → some t ≡ stepIn (y .n) (y .start) (y .step) (take count ss) (take count ls) k s
+        → deeper N (storeOf count ss ls) k s ds t ≡ next (model y) room (at N (storeOf count ss ls) (settle k s ds))
+    unfolding react wanted
+    settle-some t e = sym (step-next y count ss ls a room N k s (settle k s ds) (some t) refl e)
 
-  -- none does: the state of the duty gets its level
-  pub settle-none : (room N k s : ℕ) (ds : List ℕ) (m : Move) → none ≡ stepIn (y .n) (y .start) (y .step) (take count ss) (take count ls) k s
-      → m ≡ kept room N (put (storeOf count ss ls) s (suc k)) k ds → m ≡ next (model y) room (at N (storeOf count ss ls) (settle k s ds))
-  unfolding react wanted
-  settle-none room N k s ds m e g = g ∙ sym (step-next y count ss ls a room N k s (settle k s ds) none refl e)
+    -- none does: the state of the duty gets its level
+    pub settle-none : none ≡ stepIn (y .n) (y .start) (y .step) (take count ss) (take count ls) k s
+        → kept room N (put (storeOf count ss ls) s (suc k)) k ds ≡ next (model y) room (at N (storeOf count ss ls) (settle k s ds))
+    unfolding react wanted
+    settle-none e = sym (step-next y count ss ls a room N k s (settle k s ds) none refl e)

@@ -8,7 +8,7 @@ use borrow.Author.Tests.{eqb-true, eqb-false}
 use lib.Dec.{eqb}
 use lib.ListN.{getD}
 use Rattle.base.proofs.Tests.{test}
-use Rattle.search.specs.Lent.{Absent, FirstAt}
+use Rattle.search.specs.Contracts.{Absent, FirstAt}
 
 -- ---- over a store
 -- from index j on up to count, a walk for s stands at k

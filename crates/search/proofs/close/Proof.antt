@@ -15,34 +15,32 @@ use Rattle.search.proofs.close.Tie as tie
 keep-requires : tie.Need-keep-requires
 keep-requires c κs =
     let s = c .before .before .before .before .before .before .before .before in
-    let b = rw (c .before .before .before .end .given .1) at (s .pre .bounded) in
-    (b, rw (s .pre .same) b)
+    let b = rw (c .before .before .before .verdict .given .1) at (s .pre .counted) in
+    record { same = s .pre .same; within = rw (s .pre .same) at b }
 
 -- what the end leaves to be finished
 closable : (m : tie.At-match-came)
     → (let a = m .before .before .before .before .args in
-    Closable (stores (a .states .now) (a .levels .now) (a .path .now)) (a .ended .end) (a .ended .questions)
-    (m .match .states) (m .match .front) (m .match .len) (m .match .number) (m .match .verdict))
+    Closable (stores (a .states .now) (a .levels .now) (a .path .now)) (a .ending .verdict) (a .ending .questions)
+    (m .match .states) (m .match .front) (m .match .len) (m .match .number) (m .match .says))
 unfolding ended
 closable m =
     let s = m .before .before .before .before in
     ⊎-elim
     (λ w. let e = w .1 .given in
     let k = w .5 .ensures in
-    let b : e .0 .1 .0 ≤ length (s .args .states .now) = rw (e .1) at (s .pre .bounded) in
-    rw (w .8, w .9, w .10, w .11, w .12) (closes-safe _ _ _ _ _ _ _ (e .1) (k .0) (omega (arith, k .1, w .5 .kept .0, b)) (w .5 .kept .0)))
+    let b : e .0 .1 .0 ≤ length (s .args .states .now) = rw (s .pre .same) at (rw (e .1) at (s .pre .counted)) in
+    rw (w .8, w .9, w .10, w .11, w .12) (closes-safe _ _ _ _ _ _ _ (e .1) (k .front) (omega (arith, k .few, w .5 .kept .0, b)) (w .5 .kept .0)))
     (⊎-elim
     (λ w. let e = w .1 .given in
-    rw (w .3, w .4, w .5, w .6, w .7) (closes-unsafe _ _ _ _ (e .1) (rw (e .1) at (s .pre .fits))))
+    rw (w .3, w .4, w .5, w .6, w .7) (closes-unsafe _ _ _ _ (e .1) (rw (e .1) at (s .pre .counted))))
     (⊎-elim
     (λ w. rw (w .2, w .3, w .4, w .5, w .6) (closes-neither _ _ _ _ _ (w .1 .given .1) refl))
     (λ w. rw (w .2, w .3, w .4, w .5, w .6) (closes-neither _ _ _ _ _ (w .1 .given .1) refl))))
     (m .match .came)
 
 finish-requires : tie.Need-finish-requires
-finish-requires c κs =
-    let k = closable (c .before .before .before) in
-    (k .front-within, k .len-within)
+finish-requires c κs = closable (c .before .before .before) .finishes
 
 same-length : tie.Need-same-length
 same-length c =
@@ -52,8 +50,7 @@ same-length c =
 returns : tie.Need-returns
 returns c =
     let m = c .before .before .before .before .before .before .before .before .before .before in
-    let f = c .before .before .before .before .before .before .finish .ensures in
-    closable m .closes _ _ _ (f .0) (f .1) (f .2)
+    closable m .closes _ (c .before .before .before .before .before .before .finish .ensures)
 
 pub close-spec : {M : Type 1} → statement M
 close-spec =

@@ -1,10 +1,12 @@
--- `search::search` meets its contract: a refusal leaves the stores untouched, and else the run ends as the definition's and is closed. Assumes nothing.
+-- `search::search` meets its contract: a refusal leaves the stores untouched, and else the run ends as the definition's and is closed. Assumes
+-- nothing.
 use mathlib.Core.Bool.{false}
 use mathlib.Core.Path.{_≡_, sym, _∙_}
 use Rattle.system.specs.System.{systemOf}
 use Rattle.call.specs.Call.{refused}
 use Rattle.call.specs.Promise.{stores}
 use Rattle.call.proofs.Call.{refused-stores}
+use Rattle.search.proofs.Turns.{first-begins, first-searches}
 use Rattle.search.proofs.Promising.{system-promised, stores-promised, lends, ends-closing, searched-promised}
 use borrow.Author.Needs.{needs}
 use Rattle.search.proofs.search.Statement.{statement}
@@ -23,7 +25,7 @@ accepted : (here : tie.Else2)
 accepted here = refused-stores _ _ {b = false} (cc) (cc)
 
 all-turns-requires : tie.Need-all-turns-requires
-all-turns-requires c κs = lends _ _ (accepted (c .before .before .before))
+all-turns-requires c κs = first-begins (lends _ _ (accepted (c .before .before .before)))
 
 close-requires : tie.Need-close-requires
 close-requires c κs = ends-closing (c .before .before .before .before .before .before .before .before .before .all-turns .ensures)
@@ -33,7 +35,7 @@ returns-3 c =
     let turns = c .before .before .before .before .before .before .before .before .before .before .before .before .before .before .before .before in
     let none = accepted (turns .before .before .before .before) in
     let l = turns .all-turns .ensures .lends in
-    searched-promised none (turns .all-turns .ensures)
+    searched-promised _ _ none (rw (first-searches _ _ _ _) at (turns .all-turns .ensures))
     (record { states = l .states; levels = l .levels ∙ sym (lends _ _ none .levels); path = turns .all-turns .kept .1 .1 .1 .1 .1 .1 .0 })
     (c .before .before .before .before .before .before .close .ensures)
 

@@ -1,0 +1,220 @@
+// The turns of a search: one question, asked and taken in, and turn after turn. A turn requires the shape of a configuration and nothing of what
+// the levels mean, and keeps it; so a run can go on from any configuration that has the shape, in any system. Each phase has its function, thin
+// over a question and over what the answer leads to. Nothing is refused here.
+ghost use mathlib.Core.List.{List};
+ghost use mathlib.Core.Path.{_≡_};
+ghost use Prim.Native.Nat.{ℕ, _-_};
+ghost use lib.ListN.{length, take};
+ghost use Rattle.ic3.specs.Search as ic3;
+ghost use Rattle.system.specs.System.{model, systemOf};
+ghost use Rattle.question.specs.Question.{answered, badIn, stepIn};
+ghost use Rattle.call.specs.Promise.{stores};
+ghost use Rattle.search.specs.declared.react.Phase.the-variants.{Look, Settle, Raise};
+ghost use Rattle.search.specs.Lent.{config, configOf};
+ghost use Rattle.search.specs.Contracts.{Holds, Ready, Raises, Moves, Begins, Ends};
+use super::react::Config;
+use super::react::Move;
+use super::react::Phase;
+use super::react::Verdict;
+use super::react::blocked;
+use super::react::deeper;
+use super::react::found;
+use super::react::round;
+use super::react::wide;
+
+// How a search ended, and the questions asked.
+pub(super) struct Ending {
+    pub(super) verdict: Verdict,
+    pub(super) questions: u32,
+}
+
+// The question for a bad state of R(i), over the stored states.
+fn bad_state(
+    n: u32,
+    start: &[u64],
+    bad: &[u64],
+    states: &[u64],
+    levels: &[u32],
+    count: usize,
+    i: u32,
+) -> question::Answer
+    requires { ⌜ Holds count (now states) (now levels) ⌝ }
+    ensures { λ r. ⌜
+        answered r
+        ≡ badIn n (now (start .entry)) (now (bad .entry)) (take count (now (states .entry))) (take count (now (levels .entry))) i
+        ⌝ }
+{
+    question::bad_in(n, start, bad, &states[..count], &levels[..count], i)
+}
+
+// The question for a state of R(i) that steps to s, over the stored states.
+fn step_state(
+    n: u32,
+    start: &[u64],
+    step: &[u64],
+    states: &[u64],
+    levels: &[u32],
+    count: usize,
+    i: u32,
+    s: u64,
+) -> question::Answer
+    requires { ⌜ Holds count (now states) (now levels) ⌝ }
+    ensures { λ r. ⌜
+        answered r
+        ≡ stepIn n (now (start .entry)) (now (step .entry)) (take count (now (states .entry))) (take count (now (levels .entry))) i s
+        ⌝ }
+{
+    question::step_in(n, start, step, &states[..count], &levels[..count], i, s)
+}
+
+// Step 2 (or 1).
+fn look(
+    n: u32,
+    start: &[u64],
+    bad: &[u64],
+    states: &[u64],
+    levels: &[u32],
+    path: &mut [u64],
+    N: u32,
+    count: usize,
+) -> Move
+    requires { ⌜ Ready n (length (now states)) (config N count Look) (stores (now states) (now levels) (now path)) ⌝ }
+    ensures { λ r. ⌜
+        ((step : List ℕ) → Moves r (stores (now (states .entry)) (now (levels .entry)) (now (path .exit)))
+        (ic3.next (model (systemOf n (now (start .entry)) step (now (bad .entry)))) (length (now (states .entry)))
+        (configOf (config N count Look) (stores (now (states .entry)) (now (levels .entry)) (now (path .entry))))))
+        ⌝ }
+{
+    let answer = bad_state(n, start, bad, states, levels, count, N);
+    match answer {
+        question::Answer::State(s) => found(path, N, count, s),
+        question::Answer::Nothing => round(levels, N + 1, count, 1, 0),
+    }
+}
+
+// Step 3 for the duty of level k + 1, whose state stands at index k + 1 of the path store.
+fn settle(
+    n: u32,
+    start: &[u64],
+    step: &[u64],
+    states: &mut [u64],
+    levels: &mut [u32],
+    path: &mut [u64],
+    N: u32,
+    count: usize,
+    k: u32,
+) -> Move
+    requires { ⌜ Ready n (length (now states)) (config N count (Settle k)) (stores (now states) (now levels) (now path)) ⌝ }
+    ensures { λ r. ⌜
+        ((bad : List ℕ) → Moves r (stores (now (states .exit)) (now (levels .exit)) (now (path .exit)))
+        (ic3.next (model (systemOf n (now (start .entry)) (now (step .entry)) bad)) (length (now (states .entry)))
+        (configOf (config N count (Settle k)) (stores (now (states .entry)) (now (levels .entry)) (now (path .entry))))))
+        ⌝ }
+{
+    let s = path[wide(k) + 1];
+    let answer = step_state(n, start, step, states, levels, count, k, s);
+    match answer {
+        question::Answer::State(t) => deeper(path, N, count, k, t),
+        question::Answer::Nothing => blocked(states, levels, N, count, k, s),
+    }
+}
+
+// Step 4 at level i for entry j: its level is raised in place.
+fn raise(
+    n: u32,
+    start: &[u64],
+    step: &[u64],
+    states: &[u64],
+    levels: &mut [u32],
+    N: u32,
+    count: usize,
+    i: u32,
+    j: usize,
+) -> Move
+    requires { ⌜ Raises n N count i j (now states) (now levels) ⌝ }
+    ensures { λ r. ⌜
+        ((bad path : List ℕ) → Moves r (stores (now (states .entry)) (now (levels .exit)) path)
+        (ic3.next (model (systemOf n (now (start .entry)) (now (step .entry)) bad)) (length (now (states .entry)))
+        (configOf (config N count (Raise i j)) (stores (now (states .entry)) (now (levels .entry)) path))))
+        ⌝ }
+{
+    let s = states[j];
+    let answer = step_state(n, start, step, states, levels, count, i, s);
+    match answer {
+        question::Answer::State(_) => {}
+        question::Answer::Nothing => {
+            levels[j] = i + 1;
+        }
+    }
+    round(levels, N, count, i, j + 1)
+}
+
+// One question, asked and taken in.
+fn one_turn(
+    n: u32,
+    start: &[u64],
+    step: &[u64],
+    bad: &[u64],
+    states: &mut [u64],
+    levels: &mut [u32],
+    path: &mut [u64],
+    c: Config,
+) -> Move
+    requires { ⌜ Ready n (length (now states)) c (stores (now states) (now levels) (now path)) ⌝ }
+    ensures { λ r. ⌜
+        Moves r (stores (now (states .exit)) (now (levels .exit)) (now (path .exit)))
+        (ic3.next (model (systemOf n (now (start .entry)) (now (step .entry)) (now (bad .entry)))) (length (now (states .entry)))
+        (configOf c (stores (now (states .entry)) (now (levels .entry)) (now (path .entry)))))
+        ⌝ }
+{
+    let N = c.N;
+    let count = c.count;
+    let phase = c.phase;
+    match phase {
+        Phase::Look => look(n, start, bad, states, levels, path, N, count),
+        Phase::Settle(k) => settle(n, start, step, states, levels, path, N, count, k),
+        Phase::Raise(i, j) => raise(n, start, step, states, levels, N, count, i, j),
+    }
+}
+
+// Turn after turn from c, which `asked` questions led to, until one is the last or the allowance is used up.
+pub(super) fn all_turns(
+    n: u32,
+    start: &[u64],
+    step: &[u64],
+    bad: &[u64],
+    states: &mut [u64],
+    levels: &mut [u32],
+    path: &mut [u64],
+    mut c: Config,
+    mut asked: u32,
+    allowance: u32,
+) -> Ending
+    requires { ⌜ Begins n (length (now states)) c asked allowance (stores (now states) (now levels) (now path)) ⌝ }
+    ensures { λ r. ⌜
+        Ends n (length (now (states .entry)))
+        (ic3.run (allowance - asked) (model (systemOf n (now (start .entry)) (now (step .entry)) (now (bad .entry))))
+        (length (now (states .entry))) (configOf c (stores (now (states .entry)) (now (levels .entry)) (now (path .entry)))) asked)
+        (r .verdict) (r .questions) (stores (now (states .exit)) (now (levels .exit)) (now (path .exit)))
+        ⌝ }
+{
+    while asked < allowance {
+        let t = one_turn(n, start, step, bad, states, levels, path, c);
+        asked += 1;
+        match t {
+            Move::Go(d) => {
+                c = d;
+            }
+            Move::Stop(verdict) => {
+                return Ending {
+                    verdict,
+                    questions: asked,
+                };
+            }
+        }
+    }
+    Ending {
+        verdict: Verdict::Spent,
+        questions: asked,
+    }
+}
