@@ -2,7 +2,6 @@
 -- is among another if the other has a 1 wherever it has. With these two readings both ways, what is to be shown of words is shown at one
 -- position at a time. Assumes nothing.
 use Prim.Native.Nat.{ℕ, _≤_}
-use mathlib.Core.Bool.{Bool}
 use mathlib.Core.Logic.{⊎-elim}
 use mathlib.Core.Path.{_≡_}
 use native.Mathlib.Omega.{arith}
@@ -10,7 +9,7 @@ use lib.Bits.{bitAnd, and-le-r}
 use Rattle.masks.specs.Bit.{bit}
 use Rattle.masks.proofs.Bits.{bit-le, bit-cases, bits-ext, at-bit}
 use Rattle.masks.proofs.Operations.{meet}
-use Rattle.question.specs.Reason.{Agree, Among, Why}
+use Rattle.question.specs.Reason.{Agree, Among}
 
 pub agree-at : (m w v : ℕ) → Agree m w v → (j : ℕ) → bit m j ≡ 1 → bit w j ≡ bit v j
 unfolding Agree
@@ -42,8 +41,3 @@ among-le m s e = omega (arith, and-le-r m s)
 pub agree-among : (m s w v : ℕ) → Among m s → Agree s w v → Agree m w v
 agree-among m s w v a g =
     agree-by m w v (λ j o. agree-at s w v g j (omega (arith, among-at m s a j, bit-le s j)))
-
--- a reason stands on more bits too
-pub why-more : (P : ℕ → Bool) (m s v : ℕ) → Among m s → Why P m v → Why P s v
-unfolding Why
-why-more P m s v a h w g = h w (agree-among m s w v a g)

@@ -1,14 +1,14 @@
 -- From words to states. With all positions settled but the state's m lowest, and the later half at u, the words that agree are s + 2^32 u for the
--- states s below 2^m, in the same order; so the least word has the least state. What is asked of a state is then what is asked of its word.
--- Assumes nothing.
+-- states s below 2^m. The front is the state's half; so a word whose front is least has the least state. What is asked of a state is then what is
+-- asked of its word. Assumes nothing.
 use Prim.Native.Nat.{ℕ, _+_, _-_, _*_, _/_, _%_, _^_, min, _≤_, _<_}
-use mathlib.Core.Bool.{Bool, false}
-use mathlib.Core.List.{List}
+use mathlib.Core.Bool.{Bool, true, false}
 use mathlib.Core.Logic.{⊎-elim}
 use mathlib.Core.Option.{none, some}
 use mathlib.Core.Path.{_≡_, refl, sym, ap, _∙_}
 use native.Mathlib.Nat.{mod-lt, div-add-mod', lt-of-lt-of-le}
 use native.Mathlib.Omega.{arith}
+use lib.Bits.{bitAnd, and-mask}
 use lib.Pow.{pow-pos, pow-mono, shr-lt}
 use Rattle.base.proofs.Tests.{lt-or-ge, test}
 use Rattle.masks.specs.Bit.{bit}
@@ -19,23 +19,27 @@ use Rattle.masks.proofs.Order.{width-bits}
 use Rattle.ic3.specs.Model.{least}
 use Rattle.ic3.proofs.Least.{least-is}
 use Rattle.question.specs.Question.{answered}
-use Rattle.question.specs.Reason.{stateOf, fulfils, Agree, Among, Why, LeastWord, asked}
+use Rattle.question.specs.Condition.{width, stateOf, Condition, fulfils, asked}
+use Rattle.question.specs.Reason.{Setting, Sound, Agrees}
+use Rattle.question.specs.Engine.{LeastFront}
 use Rattle.question.specs.declared.Answer.{Answer}
 use Rattle.question.specs.declared.Answer.the-variants.{State, Nothing}
-use Rattle.question.proofs.Agreement.{agree-at, agree-by, among-by}
+use Rattle.question.specs.declared.engine.Found.{Found}
+use Rattle.question.specs.declared.engine.Found.the-variants.{Word, Nothing}
+use Rattle.question.proofs.Agreement.{agree-at, agree-by, agree-among, among-by}
 
--- the answer, with the word's state
-abbrev pub onState : Answer → Answer
-onState (State w) = State (stateOf w)
-onState Nothing = Nothing
+-- the state of the word that is found
+abbrev pub onState : Found → Answer
+onState (Word w) = State (stateOf w)
+onState (Nothing bits) = Nothing
 
 -- ---- the positions that are settled from the start
 module _ (m : ℕ) (h : m ≤ 32) where
-  free-at : (j : ℕ) → j < m → bit (2 ^ 64 - 2 ^ m) j ≡ 0
-  free-at j l = beyond-none 64 m j (omega arith) l
+  free-at : (j : ℕ) → j < m → bit (2 ^ width - 2 ^ m) j ≡ 0
+  free-at j l = beyond-none width m j (omega arith) l
 
-  fixed-at : (j : ℕ) → m ≤ j → j < 64 → bit (2 ^ 64 - 2 ^ m) j ≡ 1
-  fixed-at j g l = beyond-all 64 m j (omega arith) g l
+  fixed-at : (j : ℕ) → m ≤ j → j < width → bit (2 ^ width - 2 ^ m) j ≡ 1
+  fixed-at j g l = beyond-all width m j (omega arith) g l
 
   -- ---- words and states
   module _ (u : ℕ) (fu : u < 2 ^ 32) where
@@ -45,40 +49,44 @@ module _ (m : ℕ) (h : m ≤ 32) where
     later-high : (j : ℕ) → bit (2 ^ 32 * u) (32 + j) ≡ bit u j
     later-high j = let e : 0 + 2 ^ 32 * u ≡ 2 ^ 32 * u = omega arith in sym (at-bit (32 + j) e) ∙ bit-high 32 j 0 u (pow-pos 32)
 
-    -- the later half is settled from the start
-    pub later-within : Among (2 ^ 32 * u) (2 ^ 64 - 2 ^ m)
-    later-within =
-        among-by (2 ^ 32 * u) (2 ^ 64 - 2 ^ m)
-        (λ j. ⊎-elim
-        (λ l. omega (arith, later-low j (omega arith)))
-        (λ g. ⊎-elim
-        (λ l. omega (arith, fixed-at j g l, bit-le (2 ^ 32 * u) j))
-        (λ b. omega (arith, bit-past 64 (2 ^ 32 * u) j (omega arith) b))
-        (lt-or-ge j 64))
-        (lt-or-ge j m))
+    -- what is settled from the start: all but the state's m lowest positions, the later half at u
+    abbrev from-start : Setting
+    from-start = record { bits = 2 ^ width - 2 ^ m; values = 2 ^ 32 * u }
+
+    pub start-sound : Sound width from-start
+    start-sound =
+        record {
+          fits = omega (arith, pow-pos m);
+          within =
+              among-by (2 ^ 32 * u) (2 ^ width - 2 ^ m)
+              (λ j. ⊎-elim
+              (λ l. omega (arith, later-low j (omega arith)))
+              (λ g. ⊎-elim
+              (λ l. omega (arith, fixed-at j g l, bit-le (2 ^ 32 * u) j))
+              (λ b. omega (arith, bit-past width (2 ^ 32 * u) j (omega arith) b))
+              (lt-or-ge j width))
+              (lt-or-ge j m));
+        }
 
     small : (s : ℕ) → s < 2 ^ m → s < 2 ^ 32
     small s f = lt-of-lt-of-le f (pow-mono h)
 
-    -- the word of a state fits, and agrees
-    word-fits : (s : ℕ) → s < 2 ^ m → s + 2 ^ 32 * u < 2 ^ 64
-    word-fits s f = omega (arith, small s f)
-
-    word-agrees : (s : ℕ) → s < 2 ^ m → Agree (2 ^ 64 - 2 ^ m) (s + 2 ^ 32 * u) (2 ^ 32 * u)
+    -- the word of a state agrees
+    word-agrees : (s : ℕ) → s < 2 ^ m → Agrees from-start (s + 2 ^ 32 * u)
     word-agrees s f =
-        agree-by (2 ^ 64 - 2 ^ m) (s + 2 ^ 32 * u) (2 ^ 32 * u)
+        agree-by (2 ^ width - 2 ^ m) (s + 2 ^ 32 * u) (2 ^ 32 * u)
         (λ j o. ⊎-elim
         (λ l. bit-low 32 j s u l ∙ bit-past m s j f (settled-from j o) ∙ sym (later-low j l))
         (λ g. let e : 32 + (j - 32) ≡ j = omega arith in
         rw e at (bit-high 32 (j - 32) s u (small s f) ∙ sym (later-high (j - 32))))
         (lt-or-ge j 32))
       where
-        settled-from : (j : ℕ) → bit (2 ^ 64 - 2 ^ m) j ≡ 1 → m ≤ j
+        settled-from : (j : ℕ) → bit (2 ^ width - 2 ^ m) j ≡ 1 → m ≤ j
         settled-from j o = ⊎-elim (λ l. absurd (omega (arith, free-at j l))) (λ g. g) (lt-or-ge j m)
 
-    module _ (w : ℕ) (fw : w < 2 ^ 64) (g : Agree (2 ^ 64 - 2 ^ m) w (2 ^ 32 * u)) where
-      same-at : (j : ℕ) → m ≤ j → j < 64 → bit w j ≡ bit (2 ^ 32 * u) j
-      same-at j a l = agree-at (2 ^ 64 - 2 ^ m) w (2 ^ 32 * u) g j (fixed-at j a l)
+    module _ (w : ℕ) (fw : w < 2 ^ width) (g : Agrees from-start w) where
+      same-at : (j : ℕ) → m ≤ j → j < width → bit w j ≡ bit (2 ^ 32 * u) j
+      same-at j a l = agree-at (2 ^ width - 2 ^ m) w (2 ^ 32 * u) g j (fixed-at j a l)
 
       -- a word that agrees is that of its state
       pub state-small : stateOf w < 2 ^ m
@@ -95,36 +103,42 @@ module _ (m : ℕ) (h : m ≤ 32) where
           (λ j l. bit-div 32 j w ∙ same-at (32 + j) (omega arith) (omega arith) ∙ later-high j) in
           omega (arith, div-add-mod' w (2 ^ 32))
 
-    -- the state of the least word is the least state
-    least-state : (P p : ℕ → Bool) → ((s : ℕ) → s < 2 ^ m → p s ≡ P (s + 2 ^ 32 * u)) → (r : Answer)
-        → LeastWord P (2 ^ 64 - 2 ^ m) (2 ^ 32 * u) r → least (2 ^ m) p ≡ answered (onState r)
-    unfolding Why
-    least-state P p same (State w) L =
-        least-is (2 ^ m) p (some (stateOf w))
-        (record {
-          state = state-small w (L .0) (L .1);
-          fulfils = same (stateOf w) (state-small w (L .0) (L .1)) ∙ ap P (sym (state-word w (L .0) (L .1))) ∙ L .2;
-          first = λ t l. first t l;
-        })
+    -- the front of a state's word is the state
+    word-front : (s : ℕ) → s < 2 ^ m → bitAnd (s + 2 ^ 32 * u) (2 ^ 32 - 1) ≡ s
+    word-front s f = omega (arith, and-mask (s + 2 ^ 32 * u) 32, small s f)
+
+    -- the state of a word whose front is least is the least state
+    least-state : (P p : ℕ → Bool) → ((s : ℕ) → s < 2 ^ m → p s ≡ P (s + 2 ^ 32 * u)) → (r : Found)
+        → LeastFront P (2 ^ 32 - 1) (record { bits = from-start .bits; values = from-start .values }) r → least (2 ^ m) p ≡ answered (onState r)
+    least-state P p same (Word w) L =
+        least-is (2 ^ m) p (some (stateOf w)) (record { state = small-state; fulfils = passes; first = first })
       where
+        small-state : stateOf w < 2 ^ m
+        small-state = state-small w (L .word .fits) (L .word .agrees)
+
+        passes : p (stateOf w) ≡ true
+        passes = same (stateOf w) small-state ∙ ap P (sym (state-word w (L .word .fits) (L .word .agrees))) ∙ L .word .true-of
+
         first : (t : ℕ) → t < stateOf w → p t ≡ false
         first t l =
-            let f : t < 2 ^ m = omega (arith, state-small w (L .0) (L .1)) in
+            let f : t < 2 ^ m = omega (arith, small-state) in
             test (p t)
             (λ e. absurd (omega (
               arith,
-              L .3 (t + 2 ^ 32 * u) (word-fits t f) (word-agrees t f) (sym (same t f) ∙ e),
-              state-word w (L .0) (L .1),
+              L .least (t + 2 ^ 32 * u) (word-agrees t f) (sym (same t f) ∙ e),
+              word-front t f,
+              and-mask w 32,
             )))
             (λ e. e)
-    least-state P p same Nothing L =
-        least-is (2 ^ m) p none (λ s f. same s f ∙ L (s + 2 ^ 32 * u) (word-agrees s f))
+    least-state P p same (Nothing reason) L =
+        least-is (2 ^ m) p none
+        (λ s f. same s f ∙ L .why (s + 2 ^ 32 * u) (agree-among reason _ (s + 2 ^ 32 * u) (2 ^ 32 * u) (L .among) (word-agrees s f)))
 
--- what the engine asks, from the least word
-pub asked-is : (n : ℕ) (low whole states levels : List ℕ) (i t : ℕ) (r : Answer)
-    → LeastWord (fulfils low whole states levels i) (2 ^ 64 - 2 ^ min n 32) (2 ^ 32 * (t % 2 ^ 32)) r
-    → answered (onState r) ≡ asked n low whole states levels i t
+-- what the engine asks, from the least front
+pub asked-is : (n : ℕ) (c : Condition) (t : ℕ) (r : Found)
+    → LeastFront (fulfils c) (2 ^ 32 - 1) (record { bits = 2 ^ width - 2 ^ min n 32; values = 2 ^ 32 * (t % 2 ^ 32) }) r
+    → answered (onState r) ≡ asked n c t
 unfolding asked
-asked-is n low whole states levels i t r L =
-    sym (least-state (min n 32) (omega arith) (t % 2 ^ 32) (mod-lt t (pow-pos 32)) (fulfils low whole states levels i)
-    (λ s. fulfils low whole states levels i (s + 2 ^ 32 * (t % 2 ^ 32))) (λ s f. refl) r L)
+asked-is n c t r L =
+    sym (least-state (min n 32) (omega arith) (t % 2 ^ 32) (mod-lt t (pow-pos 32)) (fulfils c)
+    (λ s. fulfils c (s + 2 ^ 32 * (t % 2 ^ 32))) (λ s f. refl) r L)

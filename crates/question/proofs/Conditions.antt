@@ -14,15 +14,15 @@ use Rattle.masks.proofs.Halves.{bit-low, bit-high, bit-mod}
 use Rattle.ic3.proofs.Least.{least-same}
 use Rattle.system.specs.System.{listTrue, word}
 use Rattle.question.specs.Question.{excluded, inside, badIn, stepIn}
-use Rattle.question.specs.Reason.{stateOf, allowed, fulfils, asked}
+use Rattle.question.specs.Condition.{width, stateOf, allowed, condition, fulfils, asked}
 use Rattle.question.proofs.Words.{Same, list-same}
 
 module _ (s t : ℕ) (f : s < 2 ^ 32) where
   abbrev w : ℕ
   w = s + 2 ^ 32 * (t % 2 ^ 32)
 
-  -- the word of 64 bits is the word of the two states
-  same-word : Same (word s t) w
+  -- the word of all positions is the word of the two states
+  same-word : Same width (word s t) w
   unfolding word
   same-word j l =
       ⊎-elim
@@ -35,11 +35,11 @@ module _ (s t : ℕ) (f : s < 2 ^ 32) where
   state-of = add-mul-mod-self-left s (2 ^ 32) (t % 2 ^ 32) ∙ mod-eq-of-lt f
 
   module _ (start whole states levels : List ℕ) where
-    in-start : (inside start states levels 0 s && listTrue whole (word s t)) ≡ fulfils start whole [] levels 0 w
+    in-start : (inside start states levels 0 s && listTrue whole (word s t)) ≡ fulfils (condition start whole [] levels 0) w
     unfolding inside fulfils allowed excluded somewhere
     in-start = rw (state-of, list-same whole (word s t) w same-word, and-true (listTrue whole w))
 
-    in-stored : (i : ℕ) → (inside start states levels (suc i) s && listTrue whole (word s t)) ≡ fulfils [] whole states levels (suc i) w
+    in-stored : (i : ℕ) → (inside start states levels (suc i) s && listTrue whole (word s t)) ≡ fulfils (condition [] whole states levels (suc i)) w
     unfolding inside fulfils allowed listTrue
     in-stored i =
         rw (state-of, list-same whole (word s t) w same-word)
@@ -49,11 +49,11 @@ module _ (n : ℕ) (start whole states levels : List ℕ) where
   state-small : (s : ℕ) → s < 2 ^ min n 32 → s < 2 ^ 32
   state-small s f = lt-of-lt-of-le f (pow-mono {i = min n 32} {j = 32} (omega arith))
 
-  pub step-start : (t : ℕ) → stepIn n start whole states levels 0 t ≡ asked n start whole [] levels 0 t
+  pub step-start : (t : ℕ) → stepIn n start whole states levels 0 t ≡ asked n (condition start whole [] levels 0) t
   unfolding stepIn asked
   step-start t = least-same (2 ^ min n 32) _ _ (λ s f. in-start s t (state-small s f) start whole states levels)
 
-  pub step-stored : (i t : ℕ) → 0 < i → stepIn n start whole states levels i t ≡ asked n [] whole states levels i t
+  pub step-stored : (i t : ℕ) → 0 < i → stepIn n start whole states levels i t ≡ asked n (condition [] whole states levels i) t
   unfolding stepIn asked
   step-stored zero t h = absurd (omega arith)
   step-stored (suc i) t h = least-same (2 ^ min n 32) _ _ (λ s f. in-stored s t (state-small s f) start whole states levels i)

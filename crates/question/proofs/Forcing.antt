@@ -2,7 +2,7 @@
 -- each that agrees there. With no literal true under the settled values and none open it is false of the values themselves; with one bit open,
 -- wanted by one of the masks alone, it is false of the values with that bit at the other value. Each step is one at a single position, where
 -- `omega` has the operations as linear facts. Assumes nothing.
-use mathlib.Core.Path.{_≡_, refl, sym, _∙_}
+use mathlib.Core.Path.{_≡_, sym, _∙_}
 use mathlib.Core.Logic.{_⊎_, inl, inr, ⊎-elim}
 use mathlib.Core.Bool.{false}
 use Prim.Native.Nat.{ℕ, _+_, _-_, _^_, _≤_, _<_}
@@ -12,18 +12,19 @@ use lib.Bits.{bitAnd, bitOr, and-le-l, or-lt}
 use lib.Count.{trailingZeros}
 use Rattle.base.proofs.Tests.{eq-or-ne}
 use Rattle.masks.specs.Bit.{bit}
-use Rattle.masks.proofs.Bits.{bit-le, bit-cases, bit-of-zero, bit-within, at-bit, bits-ext, bits-at}
+use Rattle.masks.proofs.Bits.{bit-le, bit-cases, bit-of-zero, bit-within, at-bit, bits-at}
 use Rattle.masks.proofs.Operations.{meet, join, less}
 use Rattle.masks.proofs.OneBit.{pow-here, pow-other}
 use Rattle.masks.proofs.Ends.{lowest-end}
 use Rattle.system.specs.System.{clauseTrue}
-use Rattle.system.proofs.Clause.{clause-literals}
-use Rattle.question.specs.Reason.{Agree, Among, Why, Forces}
+use Rattle.system.proofs.Clauses.{clause-literals}
+use Rattle.question.specs.Reason.{Agree, Sound, Reason, Forces, Setting}
+use Rattle.question.proofs.Agreement.{among-by}
 use Rattle.question.proofs.Values.{Choice, value-here, value-other, other, other-here}
 
 -- a clause that is false of a word is false of each that agrees on the bits of its masks
-clause-why : (ones zeros v : ℕ) → clauseTrue ones zeros v ≡ false → Why (clauseTrue ones zeros) (bitOr ones zeros) v
-unfolding Why Agree
+clause-why : (ones zeros v : ℕ) → clauseTrue ones zeros v ≡ false → (w : ℕ) → Agree (bitOr ones zeros) w v → clauseTrue ones zeros w ≡ false
+unfolding Agree
 clause-why ones zeros v e w a =
     clause-literals ones zeros w .1
     (λ j l. omega (
@@ -36,15 +37,16 @@ clause-why ones zeros v e w a =
     ))
 
 -- the lowest bit of a mask that is not 0 is one of its bits
-lowest-within : (w m : ℕ) → m < 2 ^ w → (m ≡ 0 → ⊥) → trailingZeros w m < w
-lowest-within w m h f = bit-within w m (trailingZeros w m) h (lowest-end w m (omega (arith, f)) h .here)
+lowest-within : (width m : ℕ) → m < 2 ^ width → (m ≡ 0 → ⊥) → trailingZeros width m < width
+lowest-within width m h f =
+    bit-within width m (trailingZeros width m) h (lowest-end width m (omega (arith, f)) h .here)
 
--- the lowest open bit, if there is one, is below 64
-pub lowest-below : (ones zeros m : ℕ) → ones < 2 ^ 64 → zeros < 2 ^ 64 → (bitOr (bitAnd ones m) (bitAnd zeros m) ≡ 0 → ⊥)
-    → trailingZeros 64 (bitOr (bitAnd ones m) (bitAnd zeros m)) < 64
-lowest-below ones zeros m p q =
-    lowest-within 64 (bitOr (bitAnd ones m) (bitAnd zeros m))
-    (or-lt 64 (bitAnd ones m) (bitAnd zeros m) (lt-of-le-of-lt (and-le-l ones m) p) (lt-of-le-of-lt (and-le-l zeros m) q))
+-- the lowest open bit, if there is one, is below the width
+pub lowest-below : (width ones zeros m : ℕ) → ones < 2 ^ width → zeros < 2 ^ width → (bitOr (bitAnd ones m) (bitAnd zeros m) ≡ 0 → ⊥)
+    → trailingZeros width (bitOr (bitAnd ones m) (bitAnd zeros m)) < width
+lowest-below width ones zeros m p q =
+    lowest-within width (bitOr (bitAnd ones m) (bitAnd zeros m))
+    (or-lt width (bitAnd ones m) (bitAnd zeros m) (lt-of-le-of-lt (and-le-l ones m) p) (lt-of-le-of-lt (and-le-l zeros m) q))
 
 -- a mask with no bit but k
 zero-or-power : (k m : ℕ) → ((j : ℕ) → (j ≡ k → ⊥) → bit m j ≡ 0) → (m ≡ 0) ⊎ (m ≡ 2 ^ k)
@@ -54,116 +56,105 @@ zero-or-power k m none =
     (λ o. inr (bits-at k m (2 ^ k) (omega (arith, pow-here k)) (λ j f. omega (arith, none j f, pow-other k j f))))
     (bit-cases m k)
 
-module _ (ones zeros settled values : ℕ) (p : ones < 2 ^ 64) (q : zeros < 2 ^ 64) (s : settled < 2 ^ 64)
-    (no-ones : bitAnd ones values ≡ 0) (no-zeros : bitAnd zeros values ≡ bitAnd zeros settled) where
+module _ (width ones zeros : ℕ) (s : Setting) (p : ones < 2 ^ width) (q : zeros < 2 ^ width) (ok : Sound width s)
+    (no-ones : bitAnd ones (s .values) ≡ 0) (no-zeros : bitAnd zeros (s .values) ≡ bitAnd zeros (s .bits)) where
   -- the open bits that are wanted 1
-  abbrev one : ℕ
-  one = bitAnd ones (2 ^ 64 - 1 - settled)
+  abbrev want-1 : ℕ
+  want-1 = bitAnd ones (2 ^ width - 1 - s .bits)
 
   -- the open bits that are wanted 0
-  abbrev none : ℕ
-  none = bitAnd zeros (2 ^ 64 - 1 - settled)
+  abbrev want-0 : ℕ
+  want-0 = bitAnd zeros (2 ^ width - 1 - s .bits)
+
+  open-1 : (j : ℕ) → bit want-1 j ≡ bit ones j - bit (s .bits) j
+  open-1 j = less width ones (s .bits) j p (ok .fits)
+
+  open-0 : (j : ℕ) → bit want-0 j ≡ bit zeros j - bit (s .bits) j
+  open-0 j = less width zeros (s .bits) j q (ok .fits)
 
   -- a bit that is wanted 1 is no 1 of the values
-  wanted-one : (j : ℕ) → bit ones j + bit values j ≤ 1
-  wanted-one j = omega (arith, meet ones values j, at-bit j no-ones, bit-of-zero j)
+  wanted-1 : (j : ℕ) → bit ones j + bit (s .values) j ≤ 1
+  wanted-1 j = omega (arith, meet ones (s .values) j, at-bit j no-ones, bit-of-zero j)
 
   -- a bit that is wanted 0 is a 1 of the values, or open
-  wanted-zero : (j : ℕ) → bit zeros j ≤ bit values j + bit none j
-  wanted-zero j =
-      omega (arith, meet zeros values j, meet zeros settled j, at-bit j no-zeros, less 64 zeros settled j q s)
+  wanted-0 : (j : ℕ) → bit zeros j ≤ bit (s .values) j + bit want-0 j
+  wanted-0 j = omega (arith, meet zeros (s .values) j, meet zeros (s .bits) j, at-bit j no-zeros, open-0 j)
 
   -- no literal is open: it fails
-  pub clause-fails : bitOr one none ≡ 0 → Among (bitOr ones zeros) settled × Why (clauseTrue ones zeros) (bitOr ones zeros) values
-  unfolding Among
-  clause-fails e = (
-    bits-ext (bitAnd (bitOr ones zeros) settled) (bitOr ones zeros)
-        (λ j. omega (
-          arith,
-          meet (bitOr ones zeros) settled j,
-          join ones zeros j,
-          join one none j,
-          at-bit j e,
-          bit-of-zero j,
-          less 64 ones settled j p s,
-          less 64 zeros settled j q s,
-        )),
-    clause-why ones zeros values
-        (clause-literals ones zeros values .1
-        (λ j l. omega (arith, wanted-one j, wanted-zero j, join one none j, at-bit j e, bit-of-zero j))),
-  )
+  pub clause-fails : bitOr want-1 want-0 ≡ 0 → Reason (clauseTrue ones zeros) s (bitOr ones zeros)
+  clause-fails e =
+      record {
+        among =
+            among-by (bitOr ones zeros) (s .bits)
+            (λ j. omega (arith, join ones zeros j, join want-1 want-0 j, at-bit j e, bit-of-zero j, open-1 j, open-0 j));
+        why =
+            clause-why ones zeros (s .values)
+            (clause-literals ones zeros (s .values) .1
+            (λ j l. omega (arith, wanted-1 j, wanted-0 j, join want-1 want-0 j, at-bit j e, bit-of-zero j)));
+      }
 
-  module _ (k : ℕ) (low : k < 64) (is : bitOr one none ≡ 2 ^ k) (differ : one ≡ none → ⊥) (within : Among values settled) where
+  module _ (k : ℕ) (low : k < width) (is : bitOr want-1 want-0 ≡ 2 ^ k) (differ : want-1 ≡ want-0 → ⊥) where
     -- no other bit is open
-    elsewhere : (j : ℕ) → (j ≡ k → ⊥) → (bit one j ≡ 0) × (bit none j ≡ 0)
-    elsewhere j f = omega (arith, join one none j, at-bit j is, pow-other k j f)
+    elsewhere : (j : ℕ) → (j ≡ k → ⊥) → (bit want-1 j ≡ 0) × (bit want-0 j ≡ 0)
+    elsewhere j f = omega (arith, join want-1 want-0 j, at-bit j is, pow-other k j f)
 
     -- one mask alone wants the open bit
-    alone : bit one k + bit none k ≡ 1
+    alone : bit want-1 k + bit want-0 k ≡ 1
     alone =
         ⊎-elim
-        (λ z. omega (arith, join one none k, at-bit k is, pow-here k))
+        (λ z. omega (arith, join want-1 want-0 k, at-bit k is, pow-here k))
         (λ o.
         ⊎-elim
         (λ z. omega arith)
-        (λ y. absurd (differ (bits-at k one none (o ∙ sym y) (λ j f. elsewhere j f .0 ∙ sym (elsewhere j f .1)))))
-        (bit-cases none k))
-        (bit-cases one k)
+        (λ y. absurd (differ (bits-at k want-1 want-0 (o ∙ sym y) (λ j f. elsewhere j f .0 ∙ sym (elsewhere j f .1)))))
+        (bit-cases want-0 k))
+        (bit-cases want-1 k)
 
     -- it is not settled
-    unsettled : bit settled k ≡ 0
-    unsettled =
-        omega (arith, alone, less 64 ones settled k p s, less 64 zeros settled k q s, bit-le ones k, bit-le zeros k, bit-le settled k)
+    unsettled : bit (s .bits) k ≡ 0
+    unsettled = omega (arith, alone, open-1 k, open-0 k, bit-le ones k, bit-le zeros k)
 
-    forced : Choice settled values k one
+    abbrev forced : Choice width s (bitOr want-1 want-0) want-1
     forced =
         record {
-          low = low;
-          within = within;
-          unsettled = unsettled;
-          either = zero-or-power k one (λ j f. elsewhere j f .0);
+          sound = ok;
+          free = record { k = k; low = low; is = is; unsettled = unsettled };
+          either =
+              ⊎-elim inl (λ e. inr (e ∙ sym is)) (zero-or-power k want-1 (λ j f. elsewhere j f .0));
         }
+
+    -- the values with the bit at the other value
+    abbrev others : ℕ
+    others = bitOr (s .values) (bitOr want-1 want-0 - want-1)
 
     -- one bit alone is open, wanted by one of the masks alone: it is forced
-    pub clause-forces : Forces (clauseTrue ones zeros) settled values (bitOr ones zeros) (bitOr one none) one
-    unfolding Among
+    pub clause-forces : Forces width (clauseTrue ones zeros) s (bitOr ones zeros) (bitOr want-1 want-0) want-1
     clause-forces =
-        rw is
         record {
-          k = k;
-          low = low;
-          is = refl;
-          unsettled = unsettled;
+          free = forced .free;
           either = forced .either;
-          among =
-              bits-ext (bitAnd (bitOr ones zeros) (bitOr settled (2 ^ k))) (bitOr ones zeros) (λ j.
-              omega (
-                arith,
-                meet (bitOr ones zeros) (bitOr settled (2 ^ k)) j,
-                join settled (2 ^ k) j,
-                join ones zeros j,
-                join one none j,
-                at-bit j is,
-                less 64 ones settled j p s,
-                less 64 zeros settled j q s,
-              ));
-          why =
-              clause-why ones zeros (values + (2 ^ k - one))
-              (clause-literals ones zeros (values + (2 ^ k - one)) .1 (λ j l. ⊎-elim (λ e. rw e here) (there j) (eq-or-ne j k)));
+          fails = record {
+            among =
+                among-by (bitOr ones zeros) (bitOr (s .bits) (bitOr want-1 want-0)) (λ j.
+                omega (
+                  arith,
+                  join (s .bits) (bitOr want-1 want-0) j,
+                  join ones zeros j,
+                  join want-1 want-0 j,
+                  open-1 j,
+                  open-0 j,
+                ));
+            why =
+                clause-why ones zeros others
+                (clause-literals ones zeros others .1 (λ j l. ⊎-elim (λ e. rw e here) (there j) (eq-or-ne j k)));
+          };
         }
       where
-        here : (bit ones k + bit (values + (2 ^ k - one)) k ≤ 1) × (bit zeros k ≤ bit (values + (2 ^ k - one)) k)
+        here : (bit ones k + bit others k ≤ 1) × (bit zeros k ≤ bit others k)
         here =
-            omega (
-              arith,
-              value-here (other forced),
-              other-here forced,
-              alone,
-              unsettled,
-              less 64 ones settled k p s,
-              less 64 zeros settled k q s,
-            )
+            let v : bit others k ≡ bit (bitOr want-1 want-0 - want-1) k = value-here (other forced) in
+            let o : bit (bitOr want-1 want-0 - want-1) k + bit want-1 k ≡ 1 = other-here forced in
+            omega (arith, alone, unsettled, open-1 k, open-0 k)
 
-        there : (j : ℕ) → (j ≡ k → ⊥) → (bit ones j + bit (values + (2 ^ k - one)) j ≤ 1) × (bit zeros j ≤ bit (values + (2 ^ k - one)) j)
-        there j f =
-            omega (arith, value-other (other forced) j f, elsewhere j f, wanted-one j, wanted-zero j)
+        there : (j : ℕ) → (j ≡ k → ⊥) → (bit ones j + bit others j ≤ 1) × (bit zeros j ≤ bit others j)
+        there j f = omega (arith, value-other (other forced) j f, elsewhere j f, wanted-1 j, wanted-0 j)

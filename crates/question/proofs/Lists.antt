@@ -9,8 +9,9 @@ use native.Mathlib.Omega.{arith}
 use lib.ListN.{length, getD}
 use Rattle.system.specs.System.{clauseTrue, listTrue}
 use Rattle.system.proofs.Lists.{list-pair, list-stops}
-use Rattle.question.specs.Reason.{Scanned}
-use Rattle.question.specs.declared.Look.{Look}
+use Rattle.question.specs.Engine.{Scanned}
+use Rattle.question.specs.declared.look.Look.{Look}
+use Rattle.question.specs.declared.look.Settled.{Settled}
 use Rattle.question.proofs.Looks.{scanned-by}
 
 -- a list is false where what stands behind its first clause is
@@ -33,6 +34,6 @@ list-false w (suc j) (x ∷ (y ∷ rest)) h e =
     rest-false x y rest w (list-false w j rest (omega arith) (rw (b, a) at e))
 
 -- a look at one clause of a list is a look at the list
-pub list-scanned : (l : List ℕ) (j settled values : ℕ) → 2 * j + 1 < length l → (r : Look)
-    → Scanned (clauseTrue (getD l (2 * j) 0) (getD l (2 * j + 1) 0)) settled values r → Scanned (listTrue l) settled values r
-list-scanned l j settled values h = scanned-by _ _ (λ w. list-false w j l h) settled values
+pub list-scanned : (l : List ℕ) (j : ℕ) → 2 * j + 1 < length l → (s : Settled) (r : Look)
+    → Scanned (clauseTrue (getD l (2 * j) 0) (getD l (2 * j + 1) 0)) s r → Scanned (listTrue l) s r
+list-scanned l j h = scanned-by _ _ (λ w. list-false w j l h)

@@ -2,22 +2,17 @@
 use Prim.Native.Nat.{ℕ}
 use mathlib.Core.Bool.{Bool, false}
 use mathlib.Core.Path.{_≡_}
-use Rattle.question.specs.Reason.{Why, Scanned}
-use Rattle.question.specs.declared.Look.{Look}
-use Rattle.question.specs.declared.Look.the-variants.{Rest, Failed, Forced}
+use Rattle.question.specs.Reason.{Setting, Reason}
+use Rattle.question.specs.Engine.{Scanned}
+use Rattle.question.specs.declared.look.Look.{Look}
+use Rattle.question.specs.declared.look.Look.the-variants.{Rest, Failed, Forced}
+use Rattle.question.specs.declared.look.Settled.{Settled}
 
-pub scanned-by : (P Q : ℕ → Bool) → ((w : ℕ) → P w ≡ false → Q w ≡ false) → (settled values : ℕ) (r : Look) → Scanned P settled values r
-    → Scanned Q settled values r
-unfolding Why
-scanned-by P Q h settled values Rest s = tt
-scanned-by P Q h settled values (Failed bits) s = (s .0, λ w a. h w (s .1 w a))
-scanned-by P Q h settled values (Forced bits one value next) s =
-    record {
-      k = s .k;
-      low = s .low;
-      is = s .is;
-      unsettled = s .unsettled;
-      either = s .either;
-      among = s .among;
-      why = λ w a. h w (s .why w a);
-    }
+module _ (P Q : ℕ → Bool) (h : (w : ℕ) → P w ≡ false → Q w ≡ false) where
+  reason-by : (s : Setting) (bits : ℕ) → Reason P s bits → Reason Q s bits
+  reason-by s bits r = record { among = r .among; why = λ w a. h w (r .why w a) }
+
+  pub scanned-by : (s : Settled) (r : Look) → Scanned P s r → Scanned Q s r
+  scanned-by s Rest l = tt
+  scanned-by s (Failed reason) l = reason-by _ reason l
+  scanned-by s (Forced reason b value next) l = record { free = l .free; either = l .either; fails = reason-by _ reason (l .fails) }

@@ -1,133 +1,124 @@
--- A test of the state alone. It is put to words whose high half is 0, and is settled there; the state of any word is such a word. So of a reason
--- the low half is enough: words that agree on it have states that agree on all of the reason. A bit that is forced is one of the state's, since
--- all others count as settled. Assumes nothing.
-use mathlib.Core.Path.{_≡_, sym, _∙_}
+-- A test of the low part of a word alone, its `half` lowest positions. It is put to words that are 0 above, where all counts as settled; the low part
+-- of any word is such a word. So of a reason the low part is enough: words that agree on it have low parts that agree on all of the reason. A bit
+-- that is forced is one of the low part's, since all others count as settled. Assumes nothing.
+use mathlib.Core.Path.{_≡_, _∙_}
 use mathlib.Core.Logic.{⊎-elim}
-use mathlib.Core.Bool.{Bool}
-use Prim.Native.Nat.{ℕ, _+_, _-_, _%_, _^_, _≤_, _<_}
+use mathlib.Core.Bool.{Bool, false}
+use Prim.Native.Nat.{ℕ, _-_, _%_, _^_, _≤_, _<_}
+use native.Mathlib.Nat.{mod-lt}
 use native.Mathlib.Omega.{arith}
-use lib.Bits.{bitAnd, bitOr}
-use Rattle.base.proofs.Tests.{lt-or-ge, eq-or-ne}
+use lib.Bits.{bitOr, or-lt}
+use lib.Pow.{pow-pos}
+use Rattle.base.proofs.Tests.{lt-or-ge}
 use Rattle.masks.specs.Bit.{bit}
-use Rattle.masks.proofs.Bits.{bit-past, at-bit, bits-ext}
-use Rattle.masks.proofs.Operations.{meet, join, beyond-none, beyond-all}
+use Rattle.masks.proofs.Bits.{bit-past}
+use Rattle.masks.proofs.Operations.{join, beyond-none, beyond-all}
 use Rattle.masks.proofs.Halves.{bit-mod}
-use Rattle.question.specs.Reason.{stateOf, Agree, Among, Why, Forces}
-use Rattle.question.proofs.Values.{Choice, value-here, value-other, other}
+use Rattle.question.specs.Reason.{Agree, Among, Sound, Open, Reason, Forces, Setting}
+use Rattle.question.proofs.Agreement.{agree-at, agree-by, among-at, among-by}
+use Rattle.question.proofs.Values.{x-other, other}
 
--- the positions of the high half
-abbrev high : ℕ
-high = 2 ^ 64 - 2 ^ 32
+module _ (width half : ℕ) (h : half ≤ width) where
+  -- the positions above the low part
+  abbrev high : ℕ
+  high = 2 ^ width - 2 ^ half
 
--- none of them is one of the state's
-high-below : (j : ℕ) → j < 32 → bit high j ≡ 0
-high-below j l = beyond-none 64 32 j (omega arith) l
+  high-below : (j : ℕ) → j < half → bit high j ≡ 0
+  high-below j l = beyond-none width half j h l
 
--- all others of a word are among them
-high-above : (j : ℕ) → 32 ≤ j → j < 64 → bit high j ≡ 1
-high-above j g l = beyond-all 64 32 j (omega arith) g l
+  high-above : (j : ℕ) → half ≤ j → j < width → bit high j ≡ 1
+  high-above j g l = beyond-all width half j h g l
 
--- a state has no bit in the high half
-state-above : (x j : ℕ) → 32 ≤ j → bit (x % 2 ^ 32) j ≡ 0
-state-above x j g = bit-past 32 (x % 2 ^ 32) j (omega arith) g
+  -- a low part has no bit above
+  low-above : (x j : ℕ) → half ≤ j → bit (x % 2 ^ half) j ≡ 0
+  low-above x j g = bit-past half (x % 2 ^ half) j (mod-lt x (pow-pos half)) g
 
--- the low half of a mask that is within s is within t, if the low half of s is
-low-among : (m s t : ℕ) → ((j : ℕ) → j < 32 → bit s j ≤ bit t j) → Among m s → Among (m % 2 ^ 32) t
-unfolding Among
-low-among m s t within e =
-    bits-ext (bitAnd (m % 2 ^ 32) t) (m % 2 ^ 32) (λ j.
-    ⊎-elim
-    (λ l. omega (arith, meet (m % 2 ^ 32) t j, meet m s j, at-bit j e, within j l, bit-mod 32 j m l))
-    (λ g. omega (arith, meet (m % 2 ^ 32) t j, state-above m j g))
-    (lt-or-ge j 32))
-
--- the state's values are within what then counts as settled
-pub low-values : (settled values : ℕ) → Among values settled → Among (values % 2 ^ 32) (bitOr settled high)
-low-values settled values = low-among values settled (bitOr settled high) (λ j l. omega (arith, join settled high j))
-
-module _ (P : ℕ → Bool) where
-  -- a reason at u, which has the low half of v and nothing above, is one for the state at v
-  low-why : (m u v : ℕ) → ((j : ℕ) → j < 32 → bit u j ≡ bit v j) → ((j : ℕ) → 32 ≤ j → bit u j ≡ 0)
-      → Why P m u → Why (λ w. P (stateOf w)) (m % 2 ^ 32) v
-  unfolding Why Agree
-  low-why m u v below above why w a =
-      why (w % 2 ^ 32)
-      (bits-ext (bitAnd (w % 2 ^ 32) m) (bitAnd u m) (λ j.
+  -- the low part of a mask that is among s is among t, if the low part of s is
+  low-among : (m s t : ℕ) → ((j : ℕ) → j < half → bit s j ≤ bit t j) → Among m s → Among (m % 2 ^ half) t
+  low-among m s t within e =
+      among-by (m % 2 ^ half) t (λ j.
       ⊎-elim
-      (λ l. omega (
-        arith,
-        meet (w % 2 ^ 32) m j,
-        meet u m j,
-        below j l,
-        bit-mod 32 j w l,
-        meet w (m % 2 ^ 32) j,
-        meet v (m % 2 ^ 32) j,
-        bit-mod 32 j m l,
-        at-bit j a,
-      ))
-      (λ g. omega (arith, meet (w % 2 ^ 32) m j, meet u m j, above j g, state-above w j g))
-      (lt-or-ge j 32)))
+      (λ l. omega (arith, among-at m s e j, within j l, bit-mod half j m l))
+      (λ g. omega (arith, low-above m j g))
+      (lt-or-ge j half))
 
-  module _ (settled values bits : ℕ) where
-    -- what fails, fails for the low half of the reason
-    pub low-fails : Among bits (bitOr settled high) × Why P bits (values % 2 ^ 32)
-        → Among (bits % 2 ^ 32) settled × Why (λ w. P (stateOf w)) (bits % 2 ^ 32) values
-    low-fails h = (
-      low-among bits (bitOr settled high) settled (λ j l. omega (arith, join settled high j, high-below j l)) (h .0),
-      low-why bits (values % 2 ^ 32) values (λ j l. bit-mod 32 j values l) (state-above values) (h .1),
-    )
+  -- what counts as settled for the low part
+  abbrev pub lowered : Setting → Setting
+  lowered s = record { bits = bitOr (s .bits) high; values = s .values % 2 ^ half }
 
-    module _ (one value : ℕ) (within : Among values settled) (h : Forces P (bitOr settled high) (values % 2 ^ 32) bits one value) where
-      -- the forced bit is not settled
-      unsettled : bit settled (h .k) ≡ 0
-      unsettled = omega (arith, join settled high (h .k), h .unsettled)
+  pub lowered-sound : (s : Setting) → Sound width s → Sound width (lowered s)
+  lowered-sound s ok =
+      record {
+        fits = or-lt width (s .bits) high (ok .fits) (omega (arith, pow-pos width, pow-pos half));
+        within = low-among (s .values) (s .bits) (bitOr (s .bits) high) (λ j l. omega (arith, join (s .bits) high j)) (ok .within);
+      }
 
-      -- it is one of the state's
-      of-state : h .k < 32
-      of-state =
-          ⊎-elim
-          (λ l. l)
-          (λ g. absurd (omega (arith, join settled high (h .k), h .unsettled, high-above (h .k) g (h .low))))
-          (lt-or-ge (h .k) 32)
+  module _ (P : ℕ → Bool) where
+    -- a reason at u, which has the low part of v and nothing above, is one for the low part at v
+    low-why : (m u v : ℕ) → ((j : ℕ) → j < half → bit u j ≡ bit v j) → ((j : ℕ) → half ≤ j → bit u j ≡ 0)
+        → ((w : ℕ) → Agree m w u → P w ≡ false) → (w : ℕ) → Agree (m % 2 ^ half) w v → P (w % 2 ^ half) ≡ false
+    low-why m u v below above why w a =
+        why (w % 2 ^ half)
+        (agree-by m (w % 2 ^ half) u (λ j o.
+        ⊎-elim
+        (λ l. omega (arith, below j l, bit-mod half j w l, bit-mod half j m l, agree-at (m % 2 ^ half) w v a j (bit-mod half j m l ∙ o)))
+        (λ g. omega (arith, above j g, low-above w j g))
+        (lt-or-ge j half)))
 
-      forced : Choice settled values (h .k) value
-      forced = record { low = h .low; within = within; unsettled = unsettled; either = h .either }
-
-      forced-low : Choice (bitOr settled high) (values % 2 ^ 32) (h .k) value
-      forced-low =
-          record { low = h .low; within = low-values settled values within; unsettled = h .unsettled; either = h .either }
-
-      -- at the other value the low halves are the same
-      other-below : (j : ℕ) → j < 32 → bit (values % 2 ^ 32 + (2 ^ h .k - value)) j ≡ bit (values + (2 ^ h .k - value)) j
-      other-below j l =
-          ⊎-elim
-          (λ s. rw s (value-here (other forced-low) ∙ sym (value-here (other forced))))
-          (λ f. value-other (other forced-low) j f ∙ bit-mod 32 j values l ∙ sym (value-other (other forced) j f))
-          (eq-or-ne j (h .k))
-
-      -- and nothing stands above
-      other-above : (j : ℕ) → 32 ≤ j → bit (values % 2 ^ 32 + (2 ^ h .k - value)) j ≡ 0
-      other-above j g =
-          value-other (other forced-low) j (λ s. omega (arith, of-state))
-          ∙ state-above values j g
-
-      -- what is forced, is forced for the low half of the reason
-      pub low-forces : Forces (λ w. P (stateOf w)) settled values (bits % 2 ^ 32) one value
-      low-forces =
+    module _ (s : Setting) (reason : ℕ) where
+      -- what fails, fails for the low part of the reason
+      pub low-fails : Reason P (lowered s) reason → Reason (λ w. P (w % 2 ^ half)) s (reason % 2 ^ half)
+      low-fails r =
           record {
-            k = h .k;
-            low = h .low;
-            is = h .is;
-            unsettled = unsettled;
-            either = h .either;
             among =
-                low-among bits (bitOr (bitOr settled high) one) (bitOr settled one)
-                (λ j l. omega (arith, join (bitOr settled high) one j, join settled high j, join settled one j, high-below j l))
-                (h .among);
+                low-among reason (bitOr (s .bits) high) (s .bits)
+                (λ j l. omega (arith, join (s .bits) high j, high-below j l)) (r .among);
             why =
-                rw (h .is)
-                (low-why bits (values % 2 ^ 32 + (2 ^ h .k - value)) (values + (2 ^ h .k - value))
-                other-below
-                other-above
-                (rw (h .is) at (h .why)));
+                low-why reason (s .values % 2 ^ half) (s .values) (λ j l. bit-mod half j (s .values) l) (low-above (s .values)) (r .why);
           }
+
+      module _ (b value : ℕ) (ok : Sound width s) (F : Forces width P (lowered s) reason b value) where
+        abbrev k : ℕ
+        k = F .free .k
+
+        -- the forced bit is one of the low part's
+        of-low : k < half
+        of-low =
+            ⊎-elim
+            (λ l. l)
+            (λ g. absurd (omega (arith, join (s .bits) high k, F .free .unsettled, high-above k g (F .free .low))))
+            (lt-or-ge k half)
+
+        abbrev free : Open width s b
+        free =
+            record {
+              k = k;
+              low = F .free .low;
+              is = F .free .is;
+              unsettled = omega (arith, join (s .bits) high k, F .free .unsettled);
+            }
+
+        -- the other value has no bit above
+        other-above : (j : ℕ) → half ≤ j → bit (b - value) j ≡ 0
+        other-above j g =
+            let not-k : j ≡ k → ⊥ = λ e. omega (arith, of-low) in
+            x-other (other (record { sound = ok; free = free; either = F .either })) j not-k
+
+        -- what is forced, is forced for the low part of the reason
+        pub low-forces : Forces width (λ w. P (w % 2 ^ half)) s (reason % 2 ^ half) b value
+        low-forces =
+            record {
+              free = free;
+              either = F .either;
+              fails = record {
+                among =
+                    low-among reason (bitOr (bitOr (s .bits) high) b) (bitOr (s .bits) b)
+                    (λ j l. omega (arith, join (bitOr (s .bits) high) b j, join (s .bits) high j, join (s .bits) b j, high-below j l))
+                    (F .fails .among);
+                why =
+                    low-why reason (bitOr (s .values % 2 ^ half) (b - value)) (bitOr (s .values) (b - value))
+                    (λ j l. omega (arith, join (s .values % 2 ^ half) (b - value) j, join (s .values) (b - value) j, bit-mod half j (s .values) l))
+                    (λ j g. omega (arith, join (s .values % 2 ^ half) (b - value) j, low-above (s .values) j g, other-above j g))
+                    (F .fails .why);
+              };
+            }

@@ -2,26 +2,27 @@
 -- nothing.
 use Prim.Native.Nat.{ℕ}
 use mathlib.Core.Bool.{Bool, and-false}
-use mathlib.Core.List.{List}
 use Rattle.system.specs.System.{listTrue}
-use Rattle.question.specs.Reason.{stateOf, allowed, fulfils, Scanned}
-use Rattle.question.specs.declared.Look.{Look}
+use Rattle.question.specs.Condition.{stateOf, allowed, Condition, fulfils}
+use Rattle.question.specs.Engine.{Scanned}
+use Rattle.question.specs.declared.look.Look.{Look}
+use Rattle.question.specs.declared.look.Settled.{Settled}
 use Rattle.question.proofs.Looks.{scanned-by}
 
-module _ (low whole states levels : List ℕ) (i settled values : ℕ) (r : Look) where
+module _ (c : Condition) (s : Settled) (r : Look) where
   abbrev Says : (ℕ → Bool) → Type 0
-  Says P = Scanned P settled values r
+  Says P = Scanned P s r
 
-  pub by-low : Says (λ w. listTrue low (stateOf w)) → Says (fulfils low whole states levels i)
+  pub by-low : Says (λ w. listTrue (c .low) (stateOf w)) → Says (fulfils c)
   unfolding fulfils
-  by-low = scanned-by _ (fulfils low whole states levels i) (λ w e. rw e) settled values r
+  by-low = scanned-by _ (fulfils c) (λ w e. rw e) s r
 
-  pub by-whole : Says (listTrue whole) → Says (fulfils low whole states levels i)
+  pub by-whole : Says (listTrue (c .whole)) → Says (fulfils c)
   unfolding fulfils
-  by-whole = scanned-by _ (fulfils low whole states levels i) (λ w e. rw e (and-false (listTrue low (stateOf w)))) settled values r
+  by-whole = scanned-by _ (fulfils c) (λ w e. rw e (and-false (listTrue (c .low) (stateOf w)))) s r
 
-  pub by-states : Says (allowed states levels i) → Says (fulfils low whole states levels i)
+  pub by-states : Says (allowed (c .states) (c .levels) (c .i)) → Says (fulfils c)
   unfolding fulfils
   by-states =
-      scanned-by _ (fulfils low whole states levels i)
-      (λ w e. rw (e, and-false (listTrue whole w)) (and-false (listTrue low (stateOf w)))) settled values r
+      scanned-by _ (fulfils c)
+      (λ w e. rw (e, and-false (listTrue (c .whole) w)) (and-false (listTrue (c .low) (stateOf w)))) s r

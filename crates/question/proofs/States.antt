@@ -18,10 +18,12 @@ use Rattle.masks.proofs.Operations.{flip}
 use Rattle.masks.proofs.Halves.{bit-mod}
 use Rattle.masks.proofs.Somewhere.{somewhere-false}
 use Rattle.system.specs.System.{clauseTrue, listTrue}
-use Rattle.system.proofs.Clause.{clause-literals}
+use Rattle.system.proofs.Clauses.{clause-literals}
 use Rattle.question.specs.Question.{excluded}
-use Rattle.question.specs.Reason.{stateOf, allowed, fulfils, Scanned}
-use Rattle.question.specs.declared.Look.{Look}
+use Rattle.question.specs.Condition.{stateOf, allowed, Condition, fulfils}
+use Rattle.question.specs.Engine.{Scanned}
+use Rattle.question.specs.declared.look.Look.{Look}
+use Rattle.question.specs.declared.look.Settled.{Settled}
 use Rattle.question.proofs.Looks.{scanned-by}
 
 -- a level that stands beside entry j
@@ -76,24 +78,23 @@ module _ (i : ℕ) (states levels : List ℕ) (j : ℕ) (h : j < length states) 
       rw (excluded-by i states levels (stateOf w) j h (entry-same i states levels (stateOf w) j e ∙ l))
 
   -- what the clause of an entry says, the store says
-  pub entry-scanned : (settled values : ℕ) (r : Look)
-      → Scanned (clauseTrue (2 ^ 32 - 1 - getD states j 0) (getD states j 0)) settled values r
-      → Scanned (allowed states levels i) settled values r
+  pub entry-scanned : (s : Settled) (r : Look)
+      → Scanned (clauseTrue (2 ^ 32 - 1 - getD states j 0) (getD states j 0)) s r → Scanned (allowed states levels i) s r
   entry-scanned = scanned-by _ _ entry-clause
 
-module _ (low whole states levels : List ℕ) (i w : ℕ) where
+module _ (c : Condition) (w : ℕ) where
   -- an excluded state fulfils nothing
-  pub fulfils-excluded : excluded i states levels (stateOf w) ≡ true → fulfils low whole states levels i w ≡ false
+  pub fulfils-excluded : excluded (c .i) (c .states) (c .levels) (stateOf w) ≡ true → fulfils c w ≡ false
   unfolding fulfils allowed
-  fulfils-excluded e = rw (e, and-false (listTrue whole w)) (and-false (listTrue low (stateOf w)))
+  fulfils-excluded e = rw (e, and-false (listTrue (c .whole) w)) (and-false (listTrue (c .low) (stateOf w)))
 
   -- nor does a state of which `low` is not true
-  pub fulfils-low-false : listTrue low (stateOf w) ≡ false → fulfils low whole states levels i w ≡ false
+  pub fulfils-low-false : listTrue (c .low) (stateOf w) ≡ false → fulfils c w ≡ false
   unfolding fulfils
   fulfils-low-false e = rw e
 
   -- of any other state `whole` decides
-  pub fulfils-whole : excluded i states levels (stateOf w) ≡ false → listTrue low (stateOf w) ≡ true
-      → fulfils low whole states levels i w ≡ listTrue whole w
+  pub fulfils-whole : excluded (c .i) (c .states) (c .levels) (stateOf w) ≡ false → listTrue (c .low) (stateOf w) ≡ true
+      → fulfils c w ≡ listTrue (c .whole) w
   unfolding fulfils allowed
-  fulfils-whole e l = rw (e, l) (and-true (listTrue whole w))
+  fulfils-whole e l = rw (e, l) (and-true (listTrue (c .whole) w))

@@ -1,154 +1,180 @@
--- The walk to the least word, from the highest open bit down. Bits that are 0 in the word in hand, or in another that was found, are settled at 0:
--- every word with a 1 there lies above all that agree from now on, since all bits above are settled. A bit for which no word with a 0 was found
--- is settled at 1, and no word that passes is lost. Where all bits are settled one word is left, and no word that passes lies below it. Assumes
--- nothing.
-use Prim.Native.Nat.{ℕ, _+_, _-_, _^_, _<_}
-use mathlib.Core.Bool.{Bool, true, false}
-use mathlib.Core.Logic.{_⊎_, inl, inr, ⊎-elim}
+-- The walk to the least front, from its highest open bit down. Bits that are 0 in the word in hand, or in another that was found, are settled at 0:
+-- the front of every word with a 1 there lies above that of all that agree from now on, since all bits of the front above it are settled. A bit for
+-- which no word with a 0 was found is settled at 1, and no word that passes is lost. Where all bits of the front are settled one front is left, and
+-- no word that passes has a lower one. Assumes nothing.
+use Prim.Native.Nat.{ℕ, suc, _-_, _^_, _≤_, _<_}
+use mathlib.Core.Bool.{Bool, false}
+use mathlib.Core.Logic.{inl, inr, ⊎-elim}
 use mathlib.Core.Path.{_≡_, sym, _∙_}
+use native.Mathlib.Nat.{lt-of-le-of-lt}
 use native.Mathlib.Omega.{arith}
-use lib.Bits.{bitAnd, bitOr}
-use Rattle.base.proofs.Tests.{lt-or-ge, clash}
+use lib.Bits.{bitAnd, bitOr, and-le-l}
+use lib.Count.{leadingZeros}
+use Rattle.base.proofs.Tests.{clash}
 use Rattle.masks.specs.Bit.{bit}
-use Rattle.masks.proofs.Bits.{bit-of-zero, bit-cases, bit-past, bits-below}
-use Rattle.masks.proofs.Operations.{flip, full}
-use Rattle.masks.proofs.OneBit.{pow-here, and-pow}
+use Rattle.masks.specs.Ends.{Highest}
+use Rattle.masks.proofs.Bits.{bit-le, bit-of-zero, bit-cases, bit-within, at-bit}
+use Rattle.masks.proofs.Ends.{highest-end}
+use Rattle.masks.proofs.Operations.{meet, less}
+use Rattle.masks.proofs.OneBit.{and-pow}
 use Rattle.masks.proofs.Order.{bit-order}
-use Rattle.question.specs.Reason.{Agree, Among, Why, Solved, TopOpen, Stands, Descends, LeastWord}
-use Rattle.question.specs.declared.Answer.the-variants.{State}
-use Rattle.question.specs.declared.Descent.{Descent}
-use Rattle.question.specs.declared.Found.the-variants.{Word, Nothing}
-use Rattle.question.proofs.Agreement.{agree-at, agree-among}
-use Rattle.question.proofs.Values.{Choice, no-value, or-value}
-use Rattle.question.proofs.Resolution.{settled-here, agree-fewer, agree-more}
-use Rattle.question.proofs.Solving.{at-zero, at-one, tried-falls, zero-within, one-within}
+use Rattle.question.specs.Reason.{Agree, Agrees, Among, Sound, Reason, Passing, TopOpen, Stands, Keeps, Descends, LeastWord, more, openOf, Setting}
+use Rattle.question.proofs.Agreement.{agree-at, agree-among, among-by}
+use Rattle.question.proofs.Values.{Choice, b-here, settled-here, value-here, more-sound, more-falls, agrees-fewer, agrees-more}
+use Rattle.question.proofs.Solving.{at-zero, at-one}
 
-abbrev pub descent : ℕ → ℕ → ℕ → Descent
-descent settled values word = record { settled = settled; values = values; word = word }
+-- ---- the bit at which the walk stands
+module _ (last front : ℕ) (s : Setting) (ff : front < 2 ^ suc last) (fs : s .bits < 2 ^ suc last) (some : 0 < openOf (suc last) front s) where
+  abbrev zeros : ℕ
+  zeros = leadingZeros (suc last) (openOf (suc last) front s)
 
-module _ {P : ℕ → Bool} {settled values word one : ℕ} (fs : settled < 2 ^ 64) (D : Stands P (descent settled values word)) (T : TopOpen settled one) where
+  fits : openOf (suc last) front s < 2 ^ suc last
+  fits = lt-of-le-of-lt (and-le-l front (2 ^ suc last - 1 - s .bits)) ff
+
+  -- there are no more zeros before the highest open bit than positions below the last
+  pub zeros-below : zeros ≤ last
+  zeros-below = highest-end last (openOf (suc last) front s) some fits .0
+
+  -- a bit of the mask of open bits is one of the front and not settled; above the highest the front has none that is open
+  pub top-open : (b : ℕ) → b ≡ 2 ^ (last - zeros) → TopOpen (suc last) front s b
+  top-open b e =
+      record {
+        free = record {
+          k = last - zeros;
+          low = bit-within (suc last) (openOf (suc last) front s) (last - zeros) fits (h .here);
+          is = e;
+          unsettled = omega (arith, at (last - zeros), h .here, bit-le front (last - zeros));
+        };
+        inside = omega (arith, at (last - zeros), h .here, bit-le front (last - zeros));
+        above = λ j g. omega (arith, at j, h .above j g);
+      }
+    where
+      h : Highest (openOf (suc last) front s) (last - zeros)
+      h = highest-end last (openOf (suc last) front s) some fits .1
+
+      at : (j : ℕ) → bit (openOf (suc last) front s) j ≡ bit front j - bit (s .bits) j
+      at j = less (suc last) front (s .bits) j ff fs
+
+-- ---- one bit of the walk
+module _ {width : ℕ} {P : ℕ → Bool} {front : ℕ} {s : Setting} {word b : ℕ} (D : Stands width P s word) (T : TopOpen width front s b) where
   abbrev k : ℕ
-  k = T .k
+  k = T .free .k
 
-  with-zero : Choice settled values k 0
-  with-zero = at-zero values fs (D .within) T
+  abbrev with-zero : Choice width s b 0
+  with-zero = at-zero (D .sound) (T .free)
 
-  with-one : Choice settled values k (2 ^ k)
-  with-one = at-one values fs (D .within) T
-
-  plus-zero : values + 0 ≡ values
-  plus-zero = omega arith
+  abbrev with-one : Choice width s b b
+  with-one = at-one (D .sound) (T .free)
 
   -- a word that agrees, and has a 0 there
-  fewer-zero : (x : ℕ) → Agree (bitOr settled (2 ^ k)) x values → Agree settled x values
-  fewer-zero x g = agree-fewer with-zero x (rw plus-zero g)
+  more-zero : (w : ℕ) → Agrees s w → bit w k ≡ 0 → Agrees (more s b 0) w
+  more-zero w g z = agrees-more with-zero w g (z ∙ sym (bit-of-zero k))
 
-  more-zero : (x : ℕ) → Agree settled x values → bit x k ≡ 0 → Agree (bitOr settled (2 ^ k)) x values
-  more-zero x g z = rw plus-zero at (agree-more with-zero x g (z ∙ sym (bit-of-zero k)))
-
-  -- above k all is settled, so a word with a 1 there lies above those with a 0
-  above : (w x : ℕ) → w < 2 ^ 64 → x < 2 ^ 64 → Agree settled w values → bit w k ≡ 1 → Agree (bitOr settled (2 ^ k)) x values → x < w
-  above w x fw fx g o a =
-      bit-order k x w
+  -- all of the front above k is settled, so of words that agree one with a 1 there has a front above that of one with a 0
+  above : (w x : ℕ) → Agrees s w → bit w k ≡ 1 → Agrees (more s b 0) x → bitAnd x front < bitAnd w front
+  above w x g o a =
+      bit-order k (bitAnd x front) (bitAnd w front)
       (λ j l. ⊎-elim
-      (λ b. let e : bit settled j ≡ 1 = omega (arith, flip 64 settled j fs b, T .highest .above j l) in
-      agree-at settled x values (fewer-zero x a) j e ∙ sym (agree-at settled w values g j e))
-      (λ b. bit-past 64 x j fx b ∙ sym (bit-past 64 w j fw b))
-      (lt-or-ge j 64))
-      (agree-at (bitOr settled (2 ^ k)) x values a k (settled-here with-zero)
-      ∙ no-value with-zero)
-      o
+      (λ z. omega (arith, meet x front j, meet w front j))
+      (λ e. let f : bit (s .bits) j ≡ 1 = omega (arith, T .above j l, bit-le (s .bits) j) in
+      let same : bit x j ≡ bit w j = agree-at (s .bits) x (s .values) (agrees-fewer with-zero x a) j f
+      ∙ sym (agree-at (s .bits) w (s .values) g j f) in
+      omega (arith, meet x front j, meet w front j))
+      (bit-cases front j))
+      (omega (arith, meet x front k, zero-there))
+      (omega (arith, meet w front k, T .inside))
+    where
+      zero-there : bit x k ≡ 0
+      zero-there = agree-at (bitOr (s .bits) b) x (bitOr (s .values) 0) a k (settled-here with-zero) ∙ value-here with-zero ∙ bit-of-zero k
 
   -- the bit is settled at 0
-  pub descends-zero : (w : ℕ) → Solved P (bitOr settled one) values (Word w)
-      → Descends P (descent settled values word) (descent (bitOr settled one) values w)
-  descends-zero w s =
+  pub descends-zero : (w : ℕ) → Passing width P (more s b 0) w → Descends width P front s (more s b 0) w
+  descends-zero w p =
       record {
-        stands = record { within = zero-within values fs (D .within) T; fits = s .0; agrees = s .1; passes = s .2 };
-        more = tried-falls values fs (D .within) T .0;
-        most = tried-falls values fs (D .within) T .1;
-        narrower = λ x g. fewer-zero x (rw (T .is) at g);
-        kept = λ t f e g.
-            ⊎-elim
-            (λ z. inl (rw (T .is) (more-zero t g z)))
-            (λ o. inr (λ x l a. above t x f l g o (rw (T .is) at a)))
-            (bit-cases t k);
+        stands = record { sound = more-sound with-zero; word = p };
+        falls = more-falls with-zero;
+        keeps = record {
+          narrower = agrees-fewer with-zero;
+          kept = λ t e g. ⊎-elim (λ z. inl (more-zero t g z)) (λ o. inr (λ x a. above t x g o a)) (bit-cases t k);
+        };
       }
 
   -- the word in hand has a 0 there
-  pub in-hand : bitAnd word one ≡ 0 → Solved P (bitOr settled one) values (Word word)
-  in-hand e = (D .fits, rw (T .is) (more-zero word (D .agrees) (and-pow word k .0 (rw (T .is) at e))), D .passes)
+  pub in-hand : bitAnd word b ≡ 0 → Passing width P (more s b 0) word
+  in-hand e =
+      record {
+        fits = D .word .fits;
+        agrees = more-zero word (D .word .agrees) (and-pow word k .0 (rw (T .free .is) at e));
+        true-of = D .word .true-of;
+      }
 
   -- the bit is settled at 1
-  pub descends-one : (m : ℕ) → Solved P (bitOr settled one) values (Nothing m) → (bitAnd word one ≡ 0 → ⊥)
-      → Descends P (descent settled values word) (descent (bitOr settled one) (bitOr values one) word)
-  unfolding Why
-  descends-one m s f =
+  pub descends-one : (m : ℕ) → Reason P (more s b 0) m → (bitAnd word b ≡ 0 → ⊥)
+      → Descends width P front s (more s b b) word
+  descends-one m r f =
       record {
         stands = record {
-          within = one-within values fs (D .within) T;
-          fits = D .fits;
-          agrees = more-one word (D .agrees) (has-one word (λ z. f (rw (T .is) (and-pow word k .1 z))));
-          passes = D .passes;
+          sound = more-sound with-one;
+          word = record {
+            fits = D .word .fits;
+            agrees = more-one word (D .word .agrees) (λ z. f (rw (T .free .is) (and-pow word k .1 z)));
+            true-of = D .word .true-of;
+          };
         };
-        more = tried-falls values fs (D .within) T .0;
-        most = tried-falls values fs (D .within) T .1;
-        narrower = λ x g. agree-fewer with-one x (rw (T .is, or-value with-one) at g);
-        kept = λ t b e g. inl (more-one t g (has-one t (λ z. clash e (why t (more-zero t g z)))));
+        falls = more-falls with-one;
+        keeps = record {
+          narrower = agrees-fewer with-one;
+          kept = λ t e g. inl (more-one t g (λ z. clash e (fails t (more-zero t g z))));
+        };
       }
     where
-      has-one : (x : ℕ) → (bit x k ≡ 0 → ⊥) → bit x k ≡ 1
-      has-one x g = ⊎-elim (λ z. absurd (g z)) (λ o. o) (bit-cases x k)
+      more-one : (w : ℕ) → Agrees s w → (bit w k ≡ 0 → ⊥) → Agrees (more s b b) w
+      more-one w g h = agrees-more with-one w g (⊎-elim (λ z. absurd (h z)) (λ o. o ∙ sym (b-here with-one)) (bit-cases w k))
 
-      more-one : (x : ℕ) → Agree settled x values → bit x k ≡ 1 → Agree (bitOr settled one) x (bitOr values one)
-      more-one x g o = rw (T .is, or-value with-one) (agree-more with-one x g (o ∙ sym (pow-here k)))
+      fails : (t : ℕ) → Agrees (more s b 0) t → P t ≡ false
+      fails t g = r .why t (agree-among m (bitOr (s .bits) b) t (bitOr (s .values) 0) (r .among) g)
 
-      why : (t : ℕ) → Agree (bitOr settled (2 ^ k)) t values → P t ≡ false
-      why t g = s .1 t (agree-among m (bitOr settled one) t values (s .0) (rw (T .is) g))
+-- ---- the whole walk, from s to r, where it has the word w in hand
+pub record Walked (width : ℕ) (P : ℕ → Bool) (front : ℕ) (s r : Setting) (w : ℕ) : Type 0 where
+  pub stands : Stands width P r w
+  pub keeps : Keeps P front s r
 
--- ---- the whole walk, from (settled, values) to d
-pub record Walked (P : ℕ → Bool) (settled values : ℕ) (d : Descent) : Type 0 where
-  pub stands : Stands P d
-  pub narrower : (x : ℕ) → Agree (d .settled) x (d .values) → Agree settled x values
-  pub kept : (w : ℕ) → w < 2 ^ 64 → P w ≡ true → Agree settled w values
-      → Agree (d .settled) w (d .values) ⊎ ((x : ℕ) → x < 2 ^ 64 → Agree (d .settled) x (d .values) → x < w)
+pub walked-none : (width : ℕ) (P : ℕ → Bool) (front : ℕ) (s : Setting) (w : ℕ) → Sound width s → Passing width P s w
+    → Walked width P front s s w
+walked-none width P front s w ok p =
+    record { stands = record { sound = ok; word = p }; keeps = record { narrower = λ x g. g; kept = λ t e g. inl g } }
 
-pub walked-none : (P : ℕ → Bool) (settled values w : ℕ) → Among values settled → Solved P settled values (Word w)
-    → Walked P settled values (descent settled values w)
-walked-none P settled values w h s =
-    record {
-      stands = record { within = h; fits = s .0; agrees = s .1; passes = s .2 };
-      narrower = λ x g. g;
-      kept = λ t f e g. inl g;
-    }
-
-module _ {P : ℕ → Bool} {settled values : ℕ} {d : Descent} (W : Walked P settled values d) where
-  pub walked-more : {r : Descent} → Descends P d r → Walked P settled values r
+module _ {width : ℕ} {P : ℕ → Bool} {front : ℕ} {s r : Setting} {w : ℕ} (W : Walked width P front s r w) where
+  pub walked-more : {q : Setting} {v : ℕ} → Descends width P front r q v → Walked width P front s q v
   walked-more D =
       record {
         stands = D .stands;
-        narrower = λ x g. W .narrower x (D .narrower x g);
-        kept = λ t f e g.
-            ⊎-elim (λ a. D .kept t f e a) (λ b. inr (λ x l a. b x l (D .narrower x a))) (W .kept t f e g);
+        keeps = record {
+          narrower = λ x g. W .keeps .narrower x (D .keeps .narrower x g);
+          kept = λ t e g.
+              ⊎-elim
+              (λ a. D .keeps .kept t e a)
+              (λ b. inr (λ x a. b x (D .keeps .narrower x a)))
+              (W .keeps .kept t e g);
+        };
       }
 
-  -- no bit is open: the word is the least
-  pub walked-all : d .settled ≡ 2 ^ 64 - 1 → LeastWord P settled values (State (d .word))
-  walked-all e = (
-    S .fits,
-    W .narrower (d .word) (S .agrees),
-    S .passes,
-    λ t f g p. ⊎-elim (λ a. omega (arith, only t f a)) (λ b. omega (arith, b (d .word) (S .fits) (S .agrees))) (W .kept t f p g),
-  )
+  -- no bit of the front is open: the word's front is the least
+  pub walked-all : front < 2 ^ width → openOf width front r ≡ 0 → LeastWord width P front s w
+  unfolding Agree
+  walked-all ff e =
+      record {
+        word = record { fits = p .fits; agrees = W .keeps .narrower w (p .agrees); true-of = p .true-of };
+        least = λ t g q.
+            ⊎-elim (λ a. omega (arith, same t a, same w (p .agrees))) (λ b. omega (arith, b w (p .agrees))) (W .keeps .kept t q g);
+      }
     where
-      S : Stands P d
-      S = W .stands
+      p : Passing width P r w
+      p = W .stands .word
 
-      all-settled : (j : ℕ) → j < 64 → bit (d .settled) j ≡ 1
-      all-settled j l = rw e (full 64 j l)
+      all-settled : Among front (r .bits)
+      all-settled =
+          among-by front (r .bits) (λ j. omega (arith, less width front (r .bits) j ff (W .stands .sound .fits), at-bit j e, bit-of-zero j))
 
-      only : (t : ℕ) → t < 2 ^ 64 → Agree (d .settled) t (d .values) → d .word ≡ t
-      only t f a =
-          bits-below 64 (d .word) t (S .fits) f
-          (λ j l. agree-at (d .settled) (d .word) (d .values) (S .agrees) j (all-settled j l)
-          ∙ sym (agree-at (d .settled) t (d .values) a j (all-settled j l)))
+      same : (t : ℕ) → Agrees r t → bitAnd t front ≡ bitAnd (r .values) front
+      same t a = agree-among front (r .bits) t (r .values) all-settled a

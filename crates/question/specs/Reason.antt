@@ -1,106 +1,107 @@
--- What the engine promises of words. A word has the state in its low half and the same bits one step later in its high half. Settled bits are a
--- mask, and their values a mask within it.
-use Prim.Native.Nat.{ℕ, _+_, _-_, _*_, _%_, _^_, min, _≤_, _<_}
-use mathlib.Core.Bool.{Bool, true, false, not, _&&_}
-use mathlib.Core.List.{List}
+-- What the engine's laws speak of: words of any width, as numbers that are read bit by bit. P is the condition.
+use Prim.Native.Nat.{ℕ, _+_, _-_, _^_, _≤_, _<_}
+use mathlib.Core.Bool.{Bool, true, false}
 use mathlib.Core.Logic.{_⊎_}
-use mathlib.Core.Option.{Option}
 use mathlib.Core.Path.{_≡_}
 use lib.Bits.{bitAnd, bitOr}
 use lib.Count.{ones}
 use lib.Dec.{eqb}
 use Rattle.masks.specs.Bit.{bit}
-use Rattle.masks.specs.Ends.{Highest}
-use Rattle.ic3.specs.Model.{least}
-use Rattle.system.specs.System.{listTrue}
-use Rattle.question.specs.Question.{excluded}
-use Rattle.question.specs.declared.Answer.{Answer}
-use Rattle.question.specs.declared.Answer.the-variants.{State, Nothing}
-use Rattle.question.specs.declared.Descent.{Descent}
-use Rattle.question.specs.declared.Found.{Found}
-use Rattle.question.specs.declared.Found.the-variants.{Word, Nothing}
-use Rattle.question.specs.declared.Look.{Look}
-use Rattle.question.specs.declared.Look.the-variants.{Rest, Failed, Forced}
-
--- the state of a word
-abbrev pub stateOf : ℕ → ℕ
-stateOf w = w % 2 ^ 32
-
--- the state of a word is not excluded
-unfoldable pub allowed : List ℕ → List ℕ → ℕ → ℕ → Bool
-allowed states levels i w = not (excluded i states levels (stateOf w))
-
--- the condition that is asked of a word: the list `low` is true of its state, the list `whole` of all of it, and its state is not excluded
-unfoldable pub fulfils : List ℕ → List ℕ → List ℕ → List ℕ → ℕ → ℕ → Bool
-fulfils low whole states levels i w =
-    listTrue low (stateOf w) && (listTrue whole w && allowed states levels i w)
 
 -- the words w and v agree on the bits of m
 unfoldable pub Agree : ℕ → ℕ → ℕ → Type 0
 Agree m w v = bitAnd w m ≡ bitAnd v m
 
--- A REASON: no word that agrees with `values` on the bits of m passes P
-unfoldable pub Why : (ℕ → Bool) → ℕ → ℕ → Type 0
-Why P m values = (w : ℕ) → Agree m w values → P w ≡ false
-
 -- the bits of m are among those of s
 unfoldable pub Among : ℕ → ℕ → Type 0
 Among m s = bitAnd m s ≡ m
 
--- Bit k, not settled yet, is forced to `value`, which is 0 or 2^k: the other value fails, for the reason `bits`.
-pub record Forces (P : ℕ → Bool) (settled values bits one value : ℕ) : Type 0 where
+-- ---- a setting
+-- settled bits, and their values
+pub record Setting : Type 0 where
+  pub bits : ℕ
+  pub values : ℕ
+
+-- its invariant: the settled bits are positions of a word, and the values are within them
+pub record Sound (width : ℕ) (s : Setting) : Type 0 where
+  pub fits : s .bits < 2 ^ width
+  pub within : Among (s .values) (s .bits)
+
+-- the word w agrees on the settled bits
+abbrev pub Agrees : Setting → ℕ → Type 0
+Agrees s w = Agree (s .bits) w (s .values)
+
+-- b is the mask of one position, k, that is open
+pub record Open (width : ℕ) (s : Setting) (b : ℕ) : Type 0 where
   pub k : ℕ
-  pub low : k < 64
-  pub is : one ≡ 2 ^ k
-  pub unsettled : bit settled k ≡ 0
-  pub either : (value ≡ 0) ⊎ (value ≡ 2 ^ k)
-  pub among : Among bits (bitOr settled one)
-  pub why : Why P bits (values + (one - value))
+  pub low : k < width
+  pub is : b ≡ 2 ^ k
+  pub unsettled : bit (s .bits) k ≡ 0
 
--- what a look at clauses or excluded states may say
-abbrev pub Scanned : (ℕ → Bool) → ℕ → ℕ → Look → Type 0
-Scanned P settled values Rest = Unit {0}
-Scanned P settled values (Failed bits) = Among bits settled × Why P bits values
-Scanned P settled values (Forced bits one value next) = Forces P settled values bits one value
+-- one bit more is settled, b at `value`
+abbrev pub more : Setting → ℕ → ℕ → Setting
+more s b value = record { bits = bitOr (s .bits) b; values = bitOr (s .values) value }
 
--- some word that agrees on the settled bits and passes; or nothing, and the settled bits that this rests on
-abbrev pub Solved : (ℕ → Bool) → ℕ → ℕ → Found → Type 0
-Solved P settled values (Word w) = (w < 2 ^ 64) × Agree settled w values × (P w ≡ true)
-Solved P settled values (Nothing bits) = Among bits settled × Why P bits values
+-- r has one bit more settled than s
+pub record Falls (width : ℕ) (s r : Setting) : Type 0 where
+  pub one : ones (r .bits) ≡ ones (s .bits) + 1
+  pub most : ones (r .bits) ≤ width
 
--- the reason that is left when bit `one` is given up: with its one value `a` failed, and with its other value `b`
-unfoldable pub resolved : ℕ → ℕ → ℕ → ℕ
-resolved a b one = elim (eqb (bitAnd a one) 0) [ true ↦ a | false ↦ bitAnd (bitOr a b) (2 ^ 64 - 1 - one) ]
+-- ---- why nothing passes
+-- A REASON: settled bits such that no word that agrees with the values on them passes P
+pub record Reason (P : ℕ → Bool) (s : Setting) (bits : ℕ) : Type 0 where
+  pub among : Among bits (s .bits)
+  pub why : (w : ℕ) → Agree bits w (s .values) → P w ≡ false
 
--- `one` is 2^k for the highest position k that is not settled
-pub record TopOpen (settled one : ℕ) : Type 0 where
-  pub k : ℕ
-  pub is : one ≡ 2 ^ k
-  pub highest : Highest (2 ^ 64 - 1 - settled) k
+-- The open bit b is forced to `value`, which is 0 or b: settled at the other value it fails, for `reason`.
+pub record Forces (width : ℕ) (P : ℕ → Bool) (s : Setting) (reason b value : ℕ) : Type 0 where
+  pub free : Open width s b
+  pub either : (value ≡ 0) ⊎ (value ≡ b)
+  pub fails : Reason P (more s b (b - value)) reason
 
--- A descent stands: its word agrees with the bits that it has settled, and passes.
-pub record Stands (P : ℕ → Bool) (d : Descent) : Type 0 where
-  pub within : Among (d .values) (d .settled)
-  pub fits : d .word < 2 ^ 64
-  pub agrees : Agree (d .settled) (d .word) (d .values)
-  pub passes : P (d .word) ≡ true
+-- the reason that is left when bit b is given up: with its one value `x` failed, and with its other value `y`
+unfoldable pub resolved : ℕ → ℕ → ℕ → ℕ → ℕ
+resolved width x y b = elim (eqb (bitAnd x b) 0) [ true ↦ x | false ↦ bitAnd (bitOr x y) (2 ^ width - 1 - b) ]
 
--- One bit of a descent, from d to r: of the words that pass and agreed, each agrees still, or is above all that do.
-pub record Descends (P : ℕ → Bool) (d r : Descent) : Type 0 where
-  pub stands : Stands P r
-  pub more : ones (r .settled) ≡ ones (d .settled) + 1
-  pub most : ones (r .settled) ≤ 64
-  pub narrower : (x : ℕ) → Agree (r .settled) x (r .values) → Agree (d .settled) x (d .values)
-  pub kept : (w : ℕ) → w < 2 ^ 64 → P w ≡ true → Agree (d .settled) w (d .values)
-      → Agree (r .settled) w (r .values) ⊎ ((x : ℕ) → x < 2 ^ 64 → Agree (r .settled) x (r .values) → x < w)
+-- ---- what passes, and the walk to the least front
+-- the word w agrees on the settled bits and passes
+pub record Passing (width : ℕ) (P : ℕ → Bool) (s : Setting) (w : ℕ) : Type 0 where
+  pub fits : w < 2 ^ width
+  pub agrees : Agrees s w
+  pub true-of : P w ≡ true
 
--- the least word that agrees on the settled bits and passes, or that there is none
-abbrev pub LeastWord : (ℕ → Bool) → ℕ → ℕ → Answer → Type 0
-LeastWord P settled values (State w) =
-    (w < 2 ^ 64) × Agree settled w values × (P w ≡ true)
-    × ((t : ℕ) → t < 2 ^ 64 → Agree settled t values → P t ≡ true → w ≤ t)
-LeastWord P settled values Nothing = Why P settled values
+-- the bits of the front that are open
+abbrev pub openOf : ℕ → ℕ → Setting → ℕ
+openOf width front s = bitAnd front (2 ^ width - 1 - s .bits)
 
--- the question as the engine asks it: the least state whose word, with t one step later, fulfils the condition
-unfoldable pub asked : ℕ → List ℕ → List ℕ → List ℕ → List ℕ → ℕ → ℕ → Option ℕ
-asked n low whole states levels i t = least (2 ^ min n 32) (λ s. fulfils low whole states levels i (s + 2 ^ 32 * (t % 2 ^ 32)))
+-- b is the highest open bit of the front
+pub record TopOpen (width front : ℕ) (s : Setting) (b : ℕ) : Type 0 where
+  pub free : Open width s b
+  pub inside : bit front (free .k) ≡ 1
+  pub above : (j : ℕ) → free .k < j → bit front j ≤ bit (s .bits) j
+
+-- the walk stands at s, with the word w in hand
+pub record Stands (width : ℕ) (P : ℕ → Bool) (s : Setting) (w : ℕ) : Type 0 where
+  pub sound : Sound width s
+  pub word : Passing width P s w
+
+-- it has not settled all of the front
+pub record Unfinished (width : ℕ) (P : ℕ → Bool) (front : ℕ) (s : Setting) (w : ℕ) : Type 0 where
+  pub stands : Stands width P s w
+  pub some : 0 < openOf width front s
+
+-- From s to r no word that passes is lost: each agrees still, or its front is above that of all that do.
+pub record Keeps (P : ℕ → Bool) (front : ℕ) (s r : Setting) : Type 0 where
+  pub narrower : (w : ℕ) → Agrees r w → Agrees s w
+  pub kept : (w : ℕ) → P w ≡ true → Agrees s w → Agrees r w ⊎ ((x : ℕ) → Agrees r x → bitAnd x front < bitAnd w front)
+
+-- one bit of the walk, from s to r, where it has the word w in hand
+pub record Descends (width : ℕ) (P : ℕ → Bool) (front : ℕ) (s r : Setting) (w : ℕ) : Type 0 where
+  pub stands : Stands width P r w
+  pub falls : Falls width s r
+  pub keeps : Keeps P front s r
+
+-- of the words that agree on the settled bits and pass, w has the least front
+pub record LeastWord (width : ℕ) (P : ℕ → Bool) (front : ℕ) (s : Setting) (w : ℕ) : Type 0 where
+  pub word : Passing width P s w
+  pub least : (t : ℕ) → Agrees s t → P t ≡ true → bitAnd w front ≤ bitAnd t front

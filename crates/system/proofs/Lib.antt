@@ -1,5 +1,5 @@
 -- The root of the laws and theorems.
-pub mod Clause
+pub mod Clauses
 pub mod Lists
 pub mod Refusals
 pub mod Sentences

@@ -16,7 +16,7 @@ use Rattle.masks.proofs.Bits.{bit-le, bit-of-zero, bit-past}
 use Rattle.masks.proofs.Halves.{bit-low, bit-high, bit-mod, bit-div}
 use Rattle.masks.proofs.Order.{width-bits}
 use Rattle.system.specs.System.{System, clauseTrue, listTrue, word, model, wrongBit}
-use Rattle.system.proofs.Clause.{clause-literals}
+use Rattle.system.proofs.Clauses.{clause-literals}
 
 -- "A clause with a bit in both masks is always true."
 pub bit-in-both : (ones zeros i : ℕ) → i < 64 → bit ones i ≡ 1 → bit zeros i ≡ 1 → (w : ℕ) → clauseTrue ones zeros w ≡ true

@@ -4,10 +4,17 @@ ghost use mathlib.Core.Path.{_≡_};
 ghost use Prim.Native.Nat.{_≤_};
 ghost use Rattle.system.specs.System.{clauseTrue, listTrue, wrongSize, wrongCount, wrongCounts, wrongBit, wrongBits, systemOf, refusalOf};
 
+// A clause: the bits wanted 1, and the bits wanted 0.
+pub struct Clause {
+    pub ones: u64,
+    pub zeros: u64,
+}
+
 // Whether the clause is true of the word: a bit wanted 1 is 1, or a bit wanted 0 is 0.
-pub fn clause_true(ones: u64, zeros: u64, word: u64) -> bool
-    ensures { λ r. ⌜ r ≡ clauseTrue ones zeros word ⌝ }
+pub fn clause_true(c: Clause, word: u64) -> bool
+    ensures { λ r. ⌜ r ≡ clauseTrue (c .ones) (c .zeros) word ⌝ }
 {
+    let Clause { ones, zeros } = c;
     if ones & word != 0 {
         return true;
     }
@@ -20,7 +27,11 @@ pub fn list_true(list: &[u64], word: u64) -> bool
 {
     let mut i = 0;
     while i + 1 < list.len() {
-        if !clause_true(list[i], list[i + 1], word) {
+        let c = Clause {
+            ones: list[i],
+            zeros: list[i + 1],
+        };
+        if !clause_true(c, word) {
             return false;
         }
         i += 2;

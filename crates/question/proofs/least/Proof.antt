@@ -3,34 +3,34 @@
 use Prim.Native.Nat.{_-_}
 use borrow.Author.Needs.{needs}
 use lib.Count.{ones}
-use Rattle.question.specs.Reason.{fulfils}
-use Rattle.question.proofs.Agreement.{why-more}
+use Rattle.question.specs.Condition.{width, condition, fulfils}
+use Rattle.question.specs.Engine.{setting}
 use Rattle.question.proofs.Walk.{Walked, walked-none, walked-more, walked-all}
 use Rattle.question.proofs.least.Statement.{statement}
 use Rattle.question.proofs.least.Tie as tie
 
 abbrev Inv-loop : tie.InvT-loop
-Inv-loop low whole states levels i settled values word d₀ d = Walked (fulfils low whole states levels i) settled values d
+Inv-loop low whole states levels i front word d₀ d =
+    Walked width (fulfils (condition low whole states levels i)) front (setting (d₀ .settled)) (setting (d .settled)) (d .word)
 
 abbrev μ-loop : tie.MeasureT-loop
-μ-loop low whole states levels i settled values word d₀ d = 64 - ones (d .settled)
+μ-loop low whole states levels i front word d₀ d = width - ones (d .settled .bits)
 
 returns : tie.Need-returns Inv-loop μ-loop
-returns c =
-    let r = rw (c .enum-told .given .1) at (c .before .before .settle .ensures) in
-    why-more (fulfils _ _ _ _ _) _ _ _ (r .0) (r .1)
+returns c = rw (c .enum-told .given .1) (rw (c .enum-told .given .1) at (c .before .before .settle .ensures))
 
 loop-holds : tie.Need-loop-holds Inv-loop μ-loop
 loop-holds c =
     let s = c .before .before .before .before .before .before .before .before in
-    walked-none (fulfils _ _ _ _ _) _ _ _ (s .pre)
-    (rw (c .before .f .given .1) at (c .before .before .before .settle .ensures))
+    walked-none width (fulfils _) _ (setting (s .args .s)) _ (s .pre) (rw (c .before .f .given .1) at (c .before .before .before .settle .ensures))
 
 loop-again : tie.Need-loop-again Inv-loop μ-loop
 loop-again c = walked-more (c .before .before .before .loop .inv) (c .descend .ensures)
 
 returns-2 : tie.Need-returns-2 Inv-loop μ-loop
-returns-2 c = walked-all (c .before .before .loop .inv) (c .if1 .left)
+returns-2 c =
+    let s = c .before .before .before .before .before .before .before .before .before .before .before in
+    walked-all (c .before .before .loop .inv) (s .fits .front .fits) (c .if1 .left)
 
 pub least-spec : {M : Type 1} → statement M
 least-spec =

@@ -1,13 +1,14 @@
 -- `system::clause_true` meets its contract: a 1 that `ones` wants makes the clause true, and without one the zeros decide. Assumes nothing.
-use Rattle.system.proofs.Clause.{clause-by-ones, clause-by-zeros}
+use native.Mathlib.Omega.{arith}
+use Rattle.system.proofs.Clauses.{clause-by-ones, clause-by-zeros}
 use Rattle.system.proofs.clause_true.Statement.{statement}
 use Rattle.system.proofs.clause_true.Tie as tie
 
 returns : tie.Need-returns
-returns c = clause-by-ones _ _ _ (c .before .fits .ones .fits) (c .before .fits .zeros .fits) (c .if1 .taken)
+returns c = clause-by-ones _ _ _ (omega arith) (omega arith) (c .if1 .taken)
 
 returns-2 : tie.Need-returns-2
-returns-2 c = clause-by-zeros _ _ _ (c .before .fits .ones .fits) (c .before .fits .zeros .fits) (c .if1 .left)
+returns-2 c = clause-by-zeros _ _ _ (omega arith) (omega arith) (c .if1 .left)
 
 pub clause-true-spec : {M : Type 1} → statement M
 clause-true-spec = tie.close (tie.spec returns returns-2)

@@ -1,8 +1,8 @@
--- `question::at_level` meets its contract: a level that is there is compared, and one that is missing counts as i. Assumes nothing.
+-- `question::look::at_level` meets its contract: a level that is there is compared, and one that is missing counts as i. Assumes nothing.
 use borrow.Author.Needs.{needs}
 use Rattle.question.proofs.States.{level-there, level-missing}
-use Rattle.question.proofs.at_level.Statement.{statement}
-use Rattle.question.proofs.at_level.Tie as tie
+use Rattle.question.proofs.look.at_level.Statement.{statement}
+use Rattle.question.proofs.look.at_level.Tie as tie
 
 returns : tie.Need-returns
 returns c =

@@ -1,5 +1,5 @@
--- `question::is_excluded` meets its contract. The loop's invariant: no entry below j excludes s. An entry that is s with a level of i or more decides,
--- any other is passed, and at the end none is left. The measure is what is left of the length. Assumes nothing.
+-- `question::look::is_excluded` meets its contract. The loop's invariant: no entry below j excludes s. An entry that is s with a level of i or more
+-- decides, any other is passed, and at the end none is left. The measure is what is left of the length. Assumes nothing.
 use Prim.Native.Nat.{ℕ, _≤_, _<_, _-_}
 use mathlib.Core.Path.{_≡_, sym, _∙_}
 use mathlib.Core.Bool.{false}
@@ -9,8 +9,8 @@ use borrow.Author.Count.{below-none, below-more}
 use borrow.Author.Needs.{needs}
 use lib.ListN.{length}
 use Rattle.question.proofs.States.{entry, entry-other, entry-same, excluded-by, excluded-none}
-use Rattle.question.proofs.is_excluded.Statement.{statement}
-use Rattle.question.proofs.is_excluded.Tie as tie
+use Rattle.question.proofs.look.is_excluded.Statement.{statement}
+use Rattle.question.proofs.look.is_excluded.Tie as tie
 
 abbrev Inv-loop : tie.InvT-loop
 Inv-loop states levels i s j₀ j = (j ≤ length states) × ((k : ℕ) → k < j → entry i states levels s k ≡ false)
