@@ -113,7 +113,7 @@ def refusals():
 def main():
     x, digest, questions = 0x9E3779B97F4A7C15, 0, 0
     kinds = [0, 0]
-    tally = [[[0] * 3 for _ in WAYS] for _ in range(3)]
+    counts = [[[0] * 3 for _ in WAYS] for _ in range(3)]
     for i in range(128):
         x = next_number(x)
         n = i % 4 + 1
@@ -149,10 +149,10 @@ def main():
                         answer = YES if judge(start, steps, bad, ys) else NO
                     if answer == YES and not path:
                         questions += len(ys) + 1
-                    tally[path if path == hit else 2][way][answer] += 1
+                    counts[path if path == hit else 2][way][answer] += 1
                     digest = next_number(digest ^ answer)
     print(" " * 25 + "yes, no, refused with 7, refused otherwise")
-    for name, lines in zip(("excluded states", "path", "the other check"), tally):
+    for name, lines in zip(("excluded states", "path", "the other check"), counts):
         for way, answers in zip(WAYS, lines):
             print(f"{name:16}{way:8}", *answers, 0)
     totals = {

@@ -117,7 +117,7 @@ def main():
     names += kinds + ["no start state", "no bad state", "all states bad", "bad states not reached", "states without a next"]
     names += ["safe", "unsafe", "states excluded", "states in paths", "sum of m", "sum of questions", "sum of rooms used", "longest path"]
     names += ["calls", "room m sufficed", "calls that gave 5", "calls that gave 6", "digest of all calls"]
-    tally = dict.fromkeys(names, 0)
+    counts = dict.fromkeys(names, 0)
     x, d = 0x9E3779B97F4A7C15, 0
     for i in range(SYSTEMS):
         x = next_number(x)
@@ -141,9 +141,9 @@ def main():
             search = Search(starts, before, bad, room, allowance)
             number, said, evidence = search.run()
             d = next_number(d ^ digest(number | said << 4 | search.asked << 8, evidence))
-            tally["calls"] += 1
+            counts["calls"] += 1
             if number:
-                tally[f"calls that gave {number}"] += 1
+                counts[f"calls that gave {number}"] += 1
             return number, said, evidence, search.asked, len(search.level)
 
         number, said, evidence, asked, used = first = call(m, most)
@@ -185,13 +185,13 @@ def main():
             "sum of rooms used": used,
             "room m sufficed": 1,
         }.items():
-            tally[name] += more
+            counts[name] += more
         if hit:
-            tally["longest path"] = max(tally["longest path"], len(evidence))
-    tally["digest of all calls"] = d
+            counts["longest path"] = max(counts["longest path"], len(evidence))
+    counts["digest of all calls"] = d
     wrong = ["gave up with room m", "verdict differs", "path length differs", "too many questions", "evidence check refuses"]
     wrong += ["walk refuses", "store not zero", "other answer", "number not 5 or 6"]
-    for name, number in (tally | dict.fromkeys(wrong, 0)).items():
+    for name, number in (counts | dict.fromkeys(wrong, 0)).items():
         print(f"{name:25}{number}")
 
 

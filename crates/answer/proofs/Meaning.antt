@@ -4,13 +4,11 @@ use Prim.Native.Nat.{ℕ, _≤_, _<_}
 use mathlib.Core.List.{List}
 use mathlib.Core.Path.{_≡_, refl, sym, ap, _∙_}
 use native.Mathlib.Omega.{arith}
-use lib.Dec.{ltb}
 use Rattle.text.specs.Writing.{Writes}
-use Rattle.base.proofs.Tests.{test}
 use Rattle.ic3.specs.Model.{Model}
 use Rattle.ic3.specs.Demands.{Safe, Unsafe}
 use Rattle.system.specs.System.{model}
-use Rattle.call.specs.Call.{Stores, Said, says-safe, says-unsafe, says-nothing, result, called}
+use Rattle.call.specs.Call.{Stores, Said, says-safe, says-unsafe, gives-up, refuses, result, called}
 use Rattle.call.specs.Promise.{Right}
 use Rattle.call.proofs.Call.{called-right}
 use Rattle.house.specs.File.{Reading, file, refused, said}
@@ -26,7 +24,8 @@ use Rattle.answer.proofs.Limits.{answered-cut, refused-line, file-numbe
 abbrev Tells : Said → ℕ → Type 0
 Tells says-safe a = a ≡ 56
 Tells says-unsafe a = a ≡ 57
-Tells says-nothing a = 65 ≤ a
+Tells gives-up a = 65 ≤ a
+Tells refuses a = 65 ≤ a
 
 refusal-tells : (a number line : ℕ) → Begins a 48 (refusalLine number line) → 65 ≤ a
 unfolding refusalLine lineOf digits letter
@@ -41,10 +40,8 @@ call-tells : (a : ℕ) (said : Said) (number questions : ℕ) (evidence : List �
 unfolding callLines verdictLines lineOf digits letter
 call-tells a says-safe number questions evidence after h = sym (h .0)
 call-tells a says-unsafe number questions evidence after h = sym (h .0)
-call-tells a says-nothing number questions evidence after h =
-    test (ltb number 5)
-    (λ e. refusal-tells a number 0 (rw (e, callLines) at h))
-    (λ e. gave-up-tells a number questions (rw (e, callLines) at h))
+call-tells a gives-up number questions evidence after h = gave-up-tells a number questions h
+call-tells a refuses number questions evidence after h = refusal-tells a number 0 h
 
 -- Of a call that said something right, and whose answer begins with this digit: the answer's lines are a verdict of this kind, and right.
 abbrev Told : ℕ → ℕ → (Model → List ℕ → Type 0) → Type 0
@@ -56,13 +53,15 @@ told-safe : Told 56 128 Safe
 unfolding callLines
 told-safe M says-safe number questions evidence after t d = (refl, d)
 told-safe M says-unsafe number questions evidence after t d = absurd (omega arith)
-told-safe M says-nothing number questions evidence after t d = absurd (omega arith)
+told-safe M gives-up number questions evidence after t d = absurd (omega arith)
+told-safe M refuses number questions evidence after t d = absurd (omega arith)
 
 told-unsafe : Told 57 144 Unsafe
 unfolding callLines
 told-unsafe M says-safe number questions evidence after t d = absurd (omega arith)
 told-unsafe M says-unsafe number questions evidence after t d = (refl, d)
-told-unsafe M says-nothing number questions evidence after t d = absurd (omega arith)
+told-unsafe M gives-up number questions evidence after t d = absurd (omega arith)
+told-unsafe M refuses number questions evidence after t d = absurd (omega arith)
 
 module _ (text : List ℕ) where
   pub answered-file : (r : Reading) → said clauseRooms text ≡ file r → answered text ≡ systemLines (systemIn r)

@@ -4,10 +4,8 @@ use Prim.Native.Nat.{ℕ, _+_, _*_, _≤_}
 use mathlib.Core.List.{List, [], _∷_}
 use mathlib.Core.Path.{_≡_, refl}
 use native.Mathlib.Omega.{arith}
-use lib.Dec.{ltb}
 use lib.ListN.{length, length-append}
-use Rattle.base.proofs.Tests.{test}
-use Rattle.call.specs.Call.{Stores, Said, says-safe, says-unsafe, says-nothing, result}
+use Rattle.call.specs.Call.{Stores, Said, says-safe, says-unsafe, gives-up, refuses, result}
 use Rattle.call.proofs.Call.{called-evidence}
 use Rattle.house.specs.File.{Said as Read, file, refused, said}
 use Rattle.answer.specs.Output.{one, two, four}
@@ -36,8 +34,8 @@ call-short : (s : Said) (number questions : ℕ) (evidence : List ℕ) (after : 
 unfolding callLines
 call-short says-safe number questions evidence after h = verdict-short 128 questions evidence h
 call-short says-unsafe number questions evidence after h = verdict-short 144 questions evidence h
-call-short says-nothing number questions evidence after h =
-    test (ltb number 5) (λ e. rw (e, callLines) (refusal-short number 0)) (λ e. rw (e, callLines) (gave-up-short number questions))
+call-short gives-up number questions evidence after h = gave-up-short number questions
+call-short refuses number questions evidence after h = refusal-short number 0
 
 room-1026 : length (scanStores .states) + 2 ≡ 1026
 unfolding scanStores

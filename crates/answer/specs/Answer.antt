@@ -1,12 +1,10 @@
 -- The whole of `scan` as a definition: what it writes for every text.
 use Prim.Native.Nat.{ℕ, suc, _+_, _*_}
-use mathlib.Core.Bool.{true, false}
 use mathlib.Core.List.{List, [], _∷_, _++_}
-use lib.Dec.{ltb}
 use lib.ListN.{length, replicate}
 use Rattle.base.specs.Limits.{mostClauseLines, scanRoom, scanAllowance}
 use Rattle.system.specs.System.{System, systemOf}
-use Rattle.call.specs.Call.{Stores, says-safe, says-unsafe, says-nothing, Result, called}
+use Rattle.call.specs.Call.{Stores, says-safe, says-unsafe, gives-up, refuses, Result, called}
 use Rattle.call.specs.Promise.{stores}
 use Rattle.house.specs.File.{Rooms, Reading, Said, file, refused, said}
 use Rattle.answer.specs.Output.{lineOf, one, two, four}
@@ -33,7 +31,8 @@ callLines r =
     elim (r .said) [
       | says-safe ↦ verdictLines 128 (r .questions) (r .evidence)
       | says-unsafe ↦ verdictLines 144 (r .questions) (r .evidence)
-      | says-nothing ↦ elim (ltb (r .number) 5) [ true ↦ refusalLine (r .number) 0 | false ↦ gaveUpLine (r .number) (r .questions) ]
+      | gives-up ↦ gaveUpLine (r .number) (r .questions)
+      | refuses ↦ refusalLine (r .number) 0
     ]
 
 -- stores with the room of `scan`

@@ -1,9 +1,9 @@
 -- What the answer promises, and what it means to a user.
-use Prim.Native.Nat.{ℕ, _+_, _≤_}
+use Prim.Native.Nat.{ℕ, _≤_}
 use mathlib.Core.Bool.{true}
 use mathlib.Core.List.{List, [], _∷_}
 use mathlib.Core.Path.{_≡_}
-use lib.ListN.{length, take}
+use lib.ListN.{take}
 use Rattle.text.specs.Writing.{Writes}
 use Rattle.base.specs.Limits.{scanAllowance}
 use Rattle.ic3.specs.Model.{Model}

@@ -148,28 +148,21 @@ fn put_outcome<'a>(
     requires { ⌜ (length (now states) ≤ 65536) × (length (now path) ≤ 65538) ⌝ }
     ensures { λ r. ⌜ Writes 0 (outcomeLines outcome (now (states .entry)) (now (path .entry))) (now (out .entry)) r (now (out .exit)) ⌝ }
 {
-    let number = outcome.number;
-    let questions = outcome.questions;
-    let verdict = outcome.verdict;
-    match verdict {
-        call::Verdict::SafeBy(_) => put_verdict(
+    match outcome {
+        call::Outcome::Safe(_, questions) => put_verdict(
             out,
             0x80,
             questions,
-            call::evidence(states, path, verdict),
+            call::evidence(states, path, outcome),
         ),
-        call::Verdict::UnsafeBy(_) => put_verdict(
+        call::Outcome::Unsafe(_, questions) => put_verdict(
             out,
             0x90,
             questions,
-            call::evidence(states, path, verdict),
+            call::evidence(states, path, outcome),
         ),
-        call::Verdict::Neither => {
-            if number < 5 {
-                return put_refusal(out, number, 0);
-            }
-            put_gave_up(out, number, questions)
-        }
+        call::Outcome::GaveUp(number, questions) => put_gave_up(out, number, questions),
+        call::Outcome::Refused(number) => put_refusal(out, number, 0),
     }
 }
 

@@ -20,7 +20,7 @@ use Rattle.ic3.proofs.Bound.{demand-3}
 use Rattle.ic3.specs.Shape.{FitsEnding}
 use Rattle.ic3.proofs.Shape.{ending-fits}
 use Rattle.system.specs.System.{System, model, refusalOf}
-use Rattle.call.specs.Call.{Stores, wrongStores, refused, Said, says-safe, says-unsafe, says-nothing, Result, result, leaves, ended, called}
+use Rattle.call.specs.Call.{Stores, wrongStores, refused, Said, says-safe, says-unsafe, gives-up, refuses, Result, result, leaves, ended, called}
 use Rattle.call.specs.Promise.{Right, Within}
 
 -- the system's own refusals come first
@@ -38,7 +38,7 @@ unfolding refused
 refused-none y s e = let n = else-none (refusalOf y) (4 if wrongStores s) e in (n .0, if-none 3 (wrongStores s) (n .1))
 
 module _ (y : System) (s : Stores) (allowance : ℕ) where
-  pub called-refused : (r : ℕ) → refused y s ≡ suc r → called y s allowance ≡ result (suc r) says-nothing 0 [] s
+  pub called-refused : (r : ℕ) → refused y s ≡ suc r → called y s allowance ≡ result (suc r) refuses 0 [] s
   unfolding called
   called-refused r e = rw (e, called)
 
@@ -97,7 +97,8 @@ ended-right M s q noRoom d = tt
 abbrev pub Speaks : Said → Type 0
 Speaks says-safe = Unit {0}
 Speaks says-unsafe = Unit {0}
-Speaks says-nothing = ⊥
+Speaks gives-up = ⊥
+Speaks refuses = ⊥
 
 module _ (y : System) (s : Stores) (allowance : ℕ) where
   -- what a call says is right

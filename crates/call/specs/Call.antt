@@ -26,11 +26,12 @@ wrongStores s =
 unfoldable pub refused : System → Stores → ℕ
 refused y s = refusalOf y else 4 if wrongStores s
 
--- what is said, with the number 0; with every other number, nothing
+-- what is said: a verdict, with the number 0; or that the search gave up; or a refusal
 pub data Said : Type 0 where
   says-safe : Said
   says-unsafe : Said
-  says-nothing : Said
+  gives-up : Said
+  refuses : Said
 
 pub record Result : Type 0 where
   pub number : ℕ
@@ -50,13 +51,13 @@ result number said q evidence after = record { number = number; said = said; que
 unfoldable pub ended : Stores → ℕ → Verdict → Result
 ended s q (safe evidence) = result 0 says-safe q evidence (leaves s evidence [])
 ended s q (unsafe path) = result 0 says-unsafe q path (leaves s [] path)
-ended s q spent = result 5 says-nothing q [] (leaves s [] [])
-ended s q noRoom = result 6 says-nothing q [] (leaves s [] [])
+ended s q spent = result 5 gives-up q [] (leaves s [] [])
+ended s q noRoom = result 6 gives-up q [] (leaves s [] [])
 
 -- THE CALL. The room is the length of the state store. A refusal reports zero questions and leaves the stores untouched.
 unfoldable pub called : System → Stores → ℕ → Result
 called y s allowance =
     elim (refused y s) [
       | zero ↦ (let e = searched (model y) (length (s .states)) allowance in ended s (e .questions) (e .verdict))
-      | suc r ↦ result (suc r) says-nothing 0 [] s
+      | suc r ↦ result (suc r) refuses 0 [] s
     ]

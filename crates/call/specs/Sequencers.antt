@@ -6,7 +6,7 @@ use mathlib.Core.Path.{_≡_}
 use lib.Dec.{eqb}
 use lib.ListN.{length}
 use Rattle.system.specs.System.{System, model}
-use Rattle.call.specs.Call.{Stores, wrongStores, Said, says-safe, says-unsafe, says-nothing, Result, called}
+use Rattle.call.specs.Call.{Stores, wrongStores, Said, says-safe, says-unsafe, gives-up, Result, called}
 
 -- a step, from one state to another
 pub record Step : Type 0 where
@@ -120,10 +120,10 @@ sequencers =
     sequencer ring 4 1000 0 says-safe (3 ∷ []) 5
     ∷ (sequencer late 4 1000 0 says-unsafe latePath 16
     ∷ (sequencer late 2 1000 0 says-unsafe latePath 16
-    ∷ (sequencer late 1 1000 6 says-nothing [] 8
+    ∷ (sequencer late 1 1000 6 gives-up [] 8
     ∷ (sequencer late 4 16 0 says-unsafe latePath 16
-    ∷ (sequencer late 4 15 5 says-nothing [] 15
-    ∷ (sequencer late 4 0 5 says-nothing [] 0
+    ∷ (sequencer late 4 15 5 gives-up [] 15
+    ∷ (sequencer late 4 0 5 gives-up [] 0
     ∷ (sequencer chain 4 1000 0 says-safe (3 ∷ (1 ∷ (2 ∷ []))) 25
     ∷ (sequencer emptyLists 4 1000 0 says-unsafe (0 ∷ []) 1
     ∷ (sequencer badFalse 4 1000 0 says-safe [] 2 ∷ [])))))))))

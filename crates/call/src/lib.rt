@@ -1,20 +1,39 @@
 // What a call of the search returns: the outcome, refusal 4, and the evidence.
 ghost use mathlib.Core.Path.{_≡_};
 ghost use Rattle.call.specs.Call.{wrongStores};
-ghost use Rattle.call.specs.Promise.{stores, HandedBack};
+ghost use Rattle.call.specs.Promise.{stores, numberOf, questionsOf, HandedBack};
 
-// The verdict, with the evidence's length: safe, unsafe, or neither.
-pub enum Verdict {
-    SafeBy(usize),
-    UnsafeBy(usize),
-    Neither,
+// How a call ended: safe or unsafe, with the number of evidence states; given up, with 5 or 6; or refused, with 1 to 4. What was searched has the count
+// of questions asked behind it.
+pub enum Outcome {
+    Safe(usize, u32),
+    Unsafe(usize, u32),
+    GaveUp(u32, u32),
+    Refused(u32),
 }
 
-// The number, the verdict, and the count of questions asked.
-pub struct Outcome {
-    pub number: u32,
-    pub verdict: Verdict,
-    pub questions: u32,
+// The number of an outcome, 0 with a verdict.
+pub fn number(outcome: Outcome) -> u32
+    ensures { λ r. ⌜ r ≡ numberOf outcome ⌝ }
+{
+    match outcome {
+        Outcome::Safe(_, _) => 0,
+        Outcome::Unsafe(_, _) => 0,
+        Outcome::GaveUp(number, _) => number,
+        Outcome::Refused(number) => number,
+    }
+}
+
+// The count of questions asked, 0 with a refusal.
+pub fn questions(outcome: Outcome) -> u32
+    ensures { λ r. ⌜ r ≡ questionsOf outcome ⌝ }
+{
+    match outcome {
+        Outcome::Safe(_, questions) => questions,
+        Outcome::Unsafe(_, questions) => questions,
+        Outcome::GaveUp(_, questions) => questions,
+        Outcome::Refused(_) => 0,
+    }
 }
 
 // Refusal 4.
@@ -31,18 +50,25 @@ pub fn wrong_stores(states: &[u64], levels: &[u32], path: &[u64]) -> bool
 }
 
 // The evidence: the front part of the state store after safe, of the path store after unsafe, and else the empty front of the state store.
-pub fn evidence<'a>(states: &'a [u64], path: &'a [u64], verdict: Verdict) -> &'a [u64]
-    ensures { λ r. ⌜ HandedBack verdict (states .entry) (path .entry) r ⌝ }
+pub fn evidence<'a>(states: &'a [u64], path: &'a [u64], outcome: Outcome) -> &'a [u64]
+    ensures { λ r. ⌜ HandedBack outcome (states .entry) (path .entry) r ⌝ }
 {
-    match verdict {
-        Verdict::SafeBy(n) => {
-            if n <= states.len() {
-                &states[..n]
+    match outcome {
+        Outcome::Safe(count, _) => {
+            if count <= states.len() {
+                &states[..count]
             } else {
                 states
             }
         }
-        Verdict::UnsafeBy(n) => { if n <= path.len() { &path[..n] } else { path } }
-        Verdict::Neither => &states[..0],
+        Outcome::Unsafe(count, _) => {
+            if count <= path.len() {
+                &path[..count]
+            } else {
+                path
+            }
+        }
+        Outcome::GaveUp(_, _) => &states[..0],
+        Outcome::Refused(_) => &states[..0],
     }
 }

@@ -2,7 +2,7 @@
 -- and no are said exactly then, and a yes has the meaning of demand 2. What the search hands back is right and lists states, so it is accepted.
 -- Assumes nothing.
 use Prim.Native.Nat.{ℕ, zero, suc, _^_, _<_, _≤_}
-use mathlib.Core.Bool.{Bool, true, false, not}
+use mathlib.Core.Bool.{Bool, true, not}
 use mathlib.Core.List.{List}
 use mathlib.Core.Path.{_≡_, refl, sym}
 use native.Mathlib.Nat.{lt-of-lt-of-le}

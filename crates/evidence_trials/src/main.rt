@@ -2,10 +2,10 @@
 // which shares no code with them. The file `stdout` is from `expected.py`, which makes the same systems and damages and decides once more.
 
 mod checks;
+mod counts;
 mod damage;
 mod found;
 mod refusals;
-mod tally;
 
 // How many systems, and where the numbers start.
 const SYSTEMS: u64 = 128;
@@ -20,7 +20,7 @@ const BAD_SEED: u64 = 0xFF51_AFD7_ED55_8CCD;
 
 // One list given to one check.
 fn compare(
-    tally: &mut [u64; 102],
+    counts: &mut [u64; 102],
     line: u64,
     path: bool,
     n: u32,
@@ -31,8 +31,8 @@ fn compare(
     list: &[u64],
 ) {
     let said = checks::check(path, n, start, step, bad, list);
-    tally::enter(
-        tally,
+    counts::enter(
+        counts,
         line,
         path,
         said,
@@ -43,7 +43,7 @@ fn compare(
 
 // Case number `code`, if there is such a damage: the lowest bit says to which check it is given.
 fn case(
-    tally: &mut [u64; 102],
+    counts: &mut [u64; 102],
     code: u64,
     own: bool,
     n: u32,
@@ -73,7 +73,7 @@ fn case(
     };
     let made = damage::damaged(d, list, k);
     compare(
-        tally,
+        counts,
         group % 3 * 8 + d.way % 8,
         path,
         n,
@@ -87,7 +87,7 @@ fn case(
 
 // Every damage of one list, given to both checks. Its own is that of paths, or of excluded states.
 fn cases(
-    tally: &mut [u64; 102],
+    counts: &mut [u64; 102],
     own: bool,
     n: u32,
     start: &[u64],
@@ -99,13 +99,13 @@ fn cases(
 ) {
     let mut code = 0;
     while code < 16384 {
-        case(tally, code, own, n, start, step, bad, table, list, k);
+        case(counts, code, own, n, start, step, bad, table, list, k);
         code += 1;
     }
 }
 
 fn try_evidence(
-    tally: &mut [u64; 102],
+    counts: &mut [u64; 102],
     second: bool,
     n: u32,
     start: &[u64],
@@ -115,17 +115,17 @@ fn try_evidence(
 ) {
     let mut list = [0u64; 20];
     let found = found::find(second, n, table, &mut list);
-    tally::count(
-        tally,
+    counts::count(
+        counts,
         if found.path {
-            tally::UNSAFE
+            counts::UNSAFE
         } else {
-            tally::SAFE
+            counts::SAFE
         },
         1,
     );
     cases(
-        tally,
+        counts,
         found.path,
         n,
         start,
@@ -137,11 +137,11 @@ fn try_evidence(
     );
 }
 
-fn both(tally: &mut [u64; 102], n: u32, start: &[u64], step: &[u64], bad: &[u64]) {
+fn both(counts: &mut [u64; 102], n: u32, start: &[u64], step: &[u64], bad: &[u64]) {
     let mut table = [false; 288];
     small_systems::table(n, start, step, bad, &mut table);
-    try_evidence(tally, false, n, start, step, bad, &table);
-    try_evidence(tally, true, n, start, step, bad, &table);
+    try_evidence(counts, false, n, start, step, bad, &table);
+    try_evidence(counts, true, n, start, step, bad, &table);
 }
 
 // The kind of start and bad lists: mostly some states.
@@ -168,7 +168,7 @@ fn step_kind(i: u64) -> u64 {
 }
 
 // System number i.
-fn system(tally: &mut [u64; 102], i: u64, shape: u64) {
+fn system(counts: &mut [u64; 102], i: u64, shape: u64) {
     let mut start = [0u64; 32];
     let mut step = [0u64; 512];
     let mut bad = [0u64; 32];
@@ -199,7 +199,7 @@ fn system(tally: &mut [u64; 102], i: u64, shape: u64) {
         &mut bad,
     );
     both(
-        tally,
+        counts,
         n,
         small_systems::front(&start, a),
         small_systems::front(&step, b),
@@ -208,14 +208,14 @@ fn system(tally: &mut [u64; 102], i: u64, shape: u64) {
 }
 
 fn main() {
-    let mut tally = [0u64; 102];
+    let mut counts = [0u64; 102];
     let mut seed = SEED;
     let mut i = 0;
     while i < SYSTEMS {
         seed = small_systems::next(seed);
-        system(&mut tally, i, seed);
+        system(&mut counts, i, seed);
         i += 1;
     }
-    tally::write(&tally);
+    counts::write(&counts);
     refusals::write();
 }

@@ -1,6 +1,6 @@
 // Systems, or listed numbers, that both checks refuse.
 use super::checks;
-use super::tally;
+use super::counts;
 
 // The length of list `list`, if it is that of number `wrong`; the others are empty.
 fn masks_in(list: u64, wrong: u64, masks: usize) -> usize {
@@ -27,12 +27,12 @@ fn refusal(path: bool, n: u32, wrong: u64, masks: usize, mask: u64) -> u64 {
 }
 
 fn write_refusal(n: u32, wrong: u64, masks: usize, mask: u64) {
-    tally::report(b"n ", n as u64);
-    tally::write_name(b", start , step  , bad   ", (wrong % 3 * 8) as usize, 8);
-    tally::report(b"with masks ", masks as u64);
-    tally::report(b", the first ", mask);
-    tally::report(b": refused with ", refusal(false, n, wrong, masks, mask));
-    tally::report(b" and ", refusal(true, n, wrong, masks, mask));
+    counts::report(b"n ", n as u64);
+    counts::write_name(b", start , step  , bad   ", (wrong % 3 * 8) as usize, 8);
+    counts::report(b"with masks ", masks as u64);
+    counts::report(b", the first ", mask);
+    counts::report(b": refused with ", refusal(false, n, wrong, masks, mask));
+    counts::report(b" and ", refusal(true, n, wrong, masks, mask));
     io::write_all(1, b"\n");
 }
 

@@ -9,14 +9,14 @@ use lib.ListN.{length, getD, take, drop}
 use lib.Seq.{drop-cons, length-take-le}
 use Rattle.stores.proofs.Over.{over-same, over-front}
 use Rattle.ic3.specs.Search.{states}
-use Rattle.call.specs.Call.{Stores, says-nothing, result, leaves, ended}
+use Rattle.call.specs.Call.{Stores, gives-up, result, leaves, ended}
 use Rattle.search.specs.Lent.{storeOf, part, verdictOf}
 use Rattle.call.specs.Promise.{stores}
 use Rattle.search.specs.Contracts.{Finishes, Closes}
 use Rattle.search.specs.declared.react.Verdict.{Verdict}
 use Rattle.search.specs.declared.react.Verdict.the-variants.{Safe, Unsafe}
-use Rattle.call.specs.declared.Verdict as call
-use Rattle.call.specs.declared.Verdict.the-variants.{SafeBy, UnsafeBy, Neither}
+use Rattle.call.specs.declared.Outcome.{Outcome}
+use Rattle.call.specs.declared.Outcome.the-variants as call
 
 -- ---- parts
 -- number by number, a part is what stands from its index on
@@ -34,16 +34,16 @@ pub stores-same : {ss ss' ls ls' path path' : List ℕ} → ss ≡ ss' → ls �
 stores-same a l p = rw (a, l, p)
 
 -- with `mid` for the states, keeping `front` of them and `len` of the path closes the verdict
-pub record Closable (s : Stores) (v : Verdict) (asked : ℕ) (mid : List ℕ) (front len number : ℕ) (verdict : call.Verdict) : Type 0 where
+pub record Closable (s : Stores) (v : Verdict) (asked : ℕ) (mid : List ℕ) (front len : ℕ) (o : Outcome) : Type 0 where
   pub same : length mid ≡ length (s .states)
   pub finishes : Finishes front len (stores mid (s .levels) (s .path))
   pub closes : (after : Stores) → after ≡ leaves (stores mid (s .levels) (s .path)) (take front mid) (take len (s .path))
-      → Closes s v asked (record { number = number; verdict = verdict; questions = asked }) after
+      → Closes s v asked o after
 
 module _ (s : Stores) (v : Verdict) (asked : ℕ) where
   -- safe: the states kept stand at the front of a store as long as before
   pub closes-safe : (i count front : ℕ) (mid : List ℕ) → v ≡ Safe i count → take front mid ≡ states (leb i) (storeOf count (s .states) (s .levels))
-      → front ≤ length mid → length mid ≡ length (s .states) → Closable s v asked mid front 0 0 (SafeBy front)
+      → front ≤ length mid → length mid ≡ length (s .states) → Closable s v asked mid front 0 (call.Safe front asked)
   unfolding ended leaves
   closes-safe i count front mid q k h m =
       let n = length-take-le front mid h in
@@ -58,7 +58,7 @@ module _ (s : Stores) (v : Verdict) (asked : ℕ) where
       }
 
   -- unsafe: the path stands at the front of its store
-  pub closes-unsafe : (k : ℕ) → v ≡ Unsafe k → k ≤ length (s .path) → Closable s v asked (s .states) 0 k 0 (UnsafeBy k)
+  pub closes-unsafe : (k : ℕ) → v ≡ Unsafe k → k ≤ length (s .path) → Closable s v asked (s .states) 0 k (call.Unsafe k asked)
   unfolding ended leaves
   closes-unsafe k q h =
       let n = length-take-le k (s .path) h in
@@ -73,11 +73,11 @@ module _ (s : Stores) (v : Verdict) (asked : ℕ) where
       }
 
   -- given up, with a number of its own: nothing is left
-  pub closes-neither : (t : Verdict) (number : ℕ) → v ≡ t
-      → ended s asked (verdictOf t s) ≡ result number says-nothing asked [] (leaves s [] [])
-      → Closable s v asked (s .states) 0 0 number Neither
+  pub closes-given-up : (t : Verdict) (number : ℕ) → v ≡ t
+      → ended s asked (verdictOf t s) ≡ result number gives-up asked [] (leaves s [] [])
+      → Closable s v asked (s .states) 0 0 (call.GaveUp number asked)
   unfolding leaves
-  closes-neither t number q h =
+  closes-given-up t number q h =
       record {
         same = refl;
         finishes = record { states = omega arith; path = omega arith };

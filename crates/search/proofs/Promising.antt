@@ -11,14 +11,13 @@ use Rattle.ic3.specs.Search as ic3
 use Rattle.ic3.proofs.Bound.{demand-3}
 use Rattle.system.specs.System.{System, model, refusalOf}
 use Rattle.system.proofs.Refusals.{size-right, refusal-none}
-use Rattle.call.specs.Call.{Stores, wrongStores, refused, leaves, ended, called}
+use Rattle.call.specs.Call.{Stores, wrongStores, refused, Said, says-safe, says-unsafe, gives-up, refuses, leaves, ended, called}
 use Rattle.search.specs.Lent.{verdictOf}
 use Rattle.search.specs.Contracts.{Lends, Ends, Closing, Closes}
-use Rattle.call.specs.Promise.{saidOf, lengthOf, resultOf, Promised}
+use Rattle.call.specs.Promise.{numberOf, saidOf, questionsOf, countOf, resultOf, Promised}
 use Rattle.search.specs.declared.react.Verdict.{Verdict}
 use Rattle.call.specs.declared.Outcome.{Outcome}
-use Rattle.call.specs.declared.Verdict as call
-use Rattle.call.specs.declared.Verdict.the-variants.{SafeBy, UnsafeBy, Neither}
+use Rattle.call.specs.declared.Outcome.the-variants.{Safe, Unsafe, GaveUp, Refused}
 use Rattle.call.proofs.Call.{refused-system, refused-stores, refused-none, called-refused, called-searches, called-within, called-right, stores-fitting, Lengths}
 
 -- ---- how a search ends
@@ -48,7 +47,7 @@ ends-closing w = record { same = w .lends .levels ∙ sym (w .lends .states); co
 -- ---- the promise
 module _ (y : System) (lent : Stores) (allowance : ℕ) where
   -- a refusal: nothing is said, nothing asked, and the stores are untouched
-  pub refused-promised : (r : ℕ) (o : Outcome) → refused y lent ≡ suc r → o ≡ record { number = suc r; verdict = Neither; questions = 0 }
+  pub refused-promised : (r : ℕ) (o : Outcome) → refused y lent ≡ suc r → o ≡ Refused (suc r)
       → Promised y lent allowance o lent
   refused-promised r o h q =
       let e = called-refused y lent allowance r h in
@@ -62,13 +61,13 @@ module _ (y : System) (lent : Stores) (allowance : ℕ) where
 
   -- refusals 1 to 3 come from the system alone
   pub system-promised : (r : ℕ) → r ≡ refusalOf y → (r ≡ 0 → ⊥)
-      → Promised y lent allowance (record { number = r; verdict = Neither; questions = 0 }) lent
+      → Promised y lent allowance (Refused r) lent
   system-promised zero e f = absurd (f refl)
   system-promised (suc r) e f = refused-promised r _ (refused-system y lent r (sym e)) refl
 
   -- refusal 4 comes from the stores alone
   pub stores-promised : refusalOf y ≡ 0 → wrongStores lent ≡ true
-      → Promised y lent allowance (record { number = 4; verdict = Neither; questions = 0 }) lent
+      → Promised y lent allowance (Refused 4) lent
   stores-promised e w = refused-promised 3 _ (refused-stores y lent e w) refl
 
 -- what is not refused is lent as the search needs it
@@ -109,30 +108,28 @@ module _ (y : System) {lent : Stores} (allowance : ℕ) (h : refused y lent ≡ 
       }
 
 -- ---- the promise leaves no choice
--- what is said and the evidence's length make the verdict
-verdict-same : (v w : call.Verdict) → saidOf v ≡ saidOf w → lengthOf v ≡ lengthOf w → v ≡ w
-verdict-same (SafeBy n) (SafeBy k) a b = ap SafeBy b
-verdict-same (SafeBy n) (UnsafeBy k) a b = cc
-verdict-same (SafeBy n) Neither a b = cc
-verdict-same (UnsafeBy n) (SafeBy k) a b = cc
-verdict-same (UnsafeBy n) (UnsafeBy k) a b = ap UnsafeBy b
-verdict-same (UnsafeBy n) Neither a b = cc
-verdict-same Neither (SafeBy k) a b = cc
-verdict-same Neither (UnsafeBy k) a b = cc
-verdict-same Neither Neither a b = refl
+-- an outcome is what is said, with its number, questions and length of evidence
+outcomeOf : Said → ℕ → ℕ → ℕ → Outcome
+outcomeOf says-safe number questions count = Safe count questions
+outcomeOf says-unsafe number questions count = Unsafe count questions
+outcomeOf gives-up number questions count = GaveUp number questions
+outcomeOf refuses number questions count = Refused number
 
--- an outcome is its number, its verdict and its questions
-outcome-same : (n n' : ℕ) (v v' : call.Verdict) (q q' : ℕ) → n ≡ n' → v ≡ v' → q ≡ q'
-    → _≡_ {A = Outcome} (record { number = n; verdict = v; questions = q }) (record { number = n'; verdict = v'; questions = q' })
-outcome-same n n' v v' q q' a b c = rw (a, b, c)
+outcome-is : (o : Outcome) → outcomeOf (saidOf o) (numberOf o) (questionsOf o) (countOf o) ≡ o
+unfolding outcomeOf
+outcome-is (Safe count questions) = refl
+outcome-is (Unsafe count questions) = refl
+outcome-is (GaveUp number questions) = refl
+outcome-is (Refused number) = refl
+
+outcome-same : (o o' : Outcome) → saidOf o ≡ saidOf o' → numberOf o ≡ numberOf o' → questionsOf o ≡ questionsOf o' → countOf o ≡ countOf o' → o ≡ o'
+outcome-same o o' a b c d = sym (outcome-is o) ∙ (rw (a, b, c, d) (outcome-is o'))
 
 -- any two outcomes that are promised, and the stores left with them, are equal
 pub one-outcome : (y : System) (lent : Stores) (allowance : ℕ) (o o' : Outcome) (after after' : Stores) → Promised y lent allowance o after
     → Promised y lent allowance o' after' → (o ≡ o') × (after ≡ after')
 one-outcome y lent allowance o o' after after' p p' =
     let e : resultOf o after ≡ resultOf o' after' = p .equation ∙ sym (p' .equation) in (
-      outcome-same _ _ _ _ _ _ (ap (λ r. r .number) e)
-          (verdict-same (o .verdict) (o' .verdict) (ap (λ r. r .said) e) (p .evidence-length ∙ sym (p' .evidence-length)))
-          (ap (λ r. r .questions) e),
+      outcome-same o o' (ap (λ r. r .said) e) (ap (λ r. r .number) e) (ap (λ r. r .questions) e) (p .evidence-length ∙ sym (p' .evidence-length)),
       ap (λ r. r .after) e,
     )

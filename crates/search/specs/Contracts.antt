@@ -10,7 +10,7 @@ use Rattle.ic3.specs.Search.{put, states, fits, judge, tested}
 use Rattle.ic3.specs.Search as ic3
 use Rattle.ic3.specs.Shape.{Tidy, Shape}
 use Rattle.call.specs.Call.{Stores, ended}
-use Rattle.call.specs.Promise.{lengthOf, resultOf}
+use Rattle.call.specs.Promise.{countOf, resultOf}
 use Rattle.call.specs.declared.Outcome.{Outcome}
 use Rattle.search.specs.Lent.{window, storeOf, phaseOf, verdictOf, moveOf}
 use Rattle.search.specs.declared.store.Kept.{Kept}
@@ -173,4 +173,4 @@ pub record Closing (v : Verdict) (s : Stores) : Type 0 where
 -- the outcome and the stores left are those that the call's definition gives for the verdict
 pub record Closes (s : Stores) (v : Verdict) (asked : ℕ) (o : Outcome) (after : Stores) : Type 0 where
   pub equation : resultOf o after ≡ ended s asked (verdictOf v s)
-  pub evidence-length : lengthOf (o .verdict) ≡ length (ended s asked (verdictOf v s) .evidence)
+  pub evidence-length : countOf o ≡ length (ended s asked (verdictOf v s) .evidence)

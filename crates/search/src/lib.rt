@@ -45,30 +45,23 @@ fn close(states: &mut [u64], levels: &mut [u32], path: &mut [u64], ending: Endin
     let verdict = ending.verdict;
     let mut front = 0;
     let mut len = 0;
-    let mut number = 0;
-    let mut says = call::Verdict::Neither;
+    let mut outcome = call::Outcome::GaveUp(5, questions);
     match verdict {
         Verdict::Safe(i, count) => {
             front = keep(states, levels, count, i);
-            says = call::Verdict::SafeBy(front);
+            outcome = call::Outcome::Safe(front, questions);
         }
         Verdict::Unsafe(k) => {
             len = k;
-            says = call::Verdict::UnsafeBy(k);
+            outcome = call::Outcome::Unsafe(k, questions);
         }
         Verdict::NoRoom => {
-            number = 6;
+            outcome = call::Outcome::GaveUp(6, questions);
         }
-        Verdict::Spent => {
-            number = 5;
-        }
+        Verdict::Spent => {}
     }
     finish(states, levels, path, front, len);
-    call::Outcome {
-        number,
-        verdict: says,
-        questions,
-    }
+    outcome
 }
 
 // The call of document 01.
@@ -90,18 +83,10 @@ pub fn search(
 {
     let refusal = system::refusal(n, start, step, bad);
     if refusal != 0 {
-        return call::Outcome {
-            number: refusal,
-            verdict: call::Verdict::Neither,
-            questions: 0,
-        };
+        return call::Outcome::Refused(refusal);
     }
     if call::wrong_stores(states, levels, path) {
-        return call::Outcome {
-            number: 4,
-            verdict: call::Verdict::Neither,
-            questions: 0,
-        };
+        return call::Outcome::Refused(4);
     }
     let first = Config {
         N: 0,

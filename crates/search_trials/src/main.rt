@@ -1,8 +1,8 @@
 // Searches of small random systems, compared with a walk over all states, which shares no code with the search or the question. The file `stdout`
 // is from `expected.py`, which makes the same systems, walks, and searches once more as document 01 says.
 
+mod counts;
 mod systems;
-mod tally;
 
 // How many systems, and where the numbers start.
 const SYSTEMS: u64 = 5440;
@@ -37,11 +37,12 @@ fn digest(seed: u64, list: &[u64]) -> u64 {
     d
 }
 
-fn said(verdict: call::Verdict) -> u64 {
-    match verdict {
-        call::Verdict::SafeBy(_) => tally::SAFE,
-        call::Verdict::UnsafeBy(_) => tally::UNSAFE,
-        call::Verdict::Neither => tally::NEITHER,
+fn said(outcome: call::Outcome) -> u64 {
+    match outcome {
+        call::Outcome::Safe(_, _) => counts::SAFE,
+        call::Outcome::Unsafe(_, _) => counts::UNSAFE,
+        call::Outcome::GaveUp(_, _) => counts::NEITHER,
+        call::Outcome::Refused(_) => counts::NEITHER,
     }
 }
 
@@ -55,7 +56,7 @@ fn is_yes(checked: evidence::Checked) -> bool {
 
 // Whether the evidence check accepts the evidence.
 fn check(said: u64, n: u32, start: &[u64], step: &[u64], bad: &[u64], list: &[u64]) -> bool {
-    if said == tally::SAFE {
+    if said == counts::SAFE {
         return is_yes(evidence::check_excluded(n, start, step, bad, list));
     }
     is_yes(evidence::check_path(n, start, step, bad, list))
@@ -63,7 +64,7 @@ fn check(said: u64, n: u32, start: &[u64], step: &[u64], bad: &[u64], list: &[u6
 
 // Whether the walk does.
 fn walk(said: u64, n: u32, table: &[bool], list: &[u64]) -> bool {
-    let right = if said == tally::SAFE {
+    let right = if said == counts::SAFE {
         small_systems::excludes(n, table, list)
     } else {
         small_systems::is_path(n, table, list)
@@ -73,7 +74,7 @@ fn walk(said: u64, n: u32, table: &[bool], list: &[u64]) -> bool {
 
 // The evidence given to both. Where nothing was said there is none, and nothing to accept.
 fn accept(
-    tally: &mut [u64; 45],
+    counts: &mut [u64; 45],
     said: u64,
     n: u32,
     start: &[u64],
@@ -82,15 +83,19 @@ fn accept(
     table: &[bool],
     list: &[u64],
 ) {
-    if said == tally::NEITHER {
+    if said == counts::NEITHER {
         return;
     }
-    tally::count(
-        tally,
-        tally::CHECK,
-        tally::one(!check(said, n, start, step, bad, list)),
+    counts::count(
+        counts,
+        counts::CHECK,
+        counts::one(!check(said, n, start, step, bad, list)),
     );
-    tally::count(tally, tally::WALK, tally::one(!walk(said, n, table, list)));
+    counts::count(
+        counts,
+        counts::WALK,
+        counts::one(!walk(said, n, table, list)),
+    );
 }
 
 // Whether entry j of the store is zero, if there is one.
@@ -107,13 +112,13 @@ fn level_zero(levels: &[u32], j: usize) -> bool {
 }
 
 // Whether all lent is zero that is not evidence. The path store is the longest.
-fn cleared(states: &[u64], levels: &[u32], path: &[u64], seen: tally::Seen) -> bool {
-    let front = if seen.said == tally::SAFE {
+fn cleared(states: &[u64], levels: &[u32], path: &[u64], seen: counts::Seen) -> bool {
+    let front = if seen.said == counts::SAFE {
         seen.length
     } else {
         0
     };
-    let len = if seen.said == tally::UNSAFE {
+    let len = if seen.said == counts::UNSAFE {
         seen.length
     } else {
         0
@@ -130,22 +135,23 @@ fn cleared(states: &[u64], levels: &[u32], path: &[u64], seen: tally::Seen) -> b
 }
 
 // What is seen of a call.
-fn see(o: call::Outcome, list: &[u64]) -> tally::Seen {
-    let verdict = o.verdict;
-    let said = said(verdict);
-    let head = (o.number % 16) as u64 | said << 4 | (o.questions as u64) << 8;
-    tally::Seen {
-        number: o.number,
+fn see(o: call::Outcome, list: &[u64]) -> counts::Seen {
+    let said = said(o);
+    let number = call::number(o);
+    let questions = call::questions(o);
+    let head = (number % 16) as u64 | said << 4 | (questions as u64) << 8;
+    counts::Seen {
+        number,
         said,
         length: list.len(),
-        questions: o.questions,
+        questions,
         digest: digest(head, list),
     }
 }
 
 // A call, looked at from every side.
 fn run(
-    tally: &mut [u64; 45],
+    counts: &mut [u64; 45],
     n: u32,
     start: &[u64],
     step: &[u64],
@@ -155,37 +161,36 @@ fn run(
     levels: &mut [u32],
     path: &mut [u64],
     allowance: u32,
-) -> tally::Seen {
+) -> counts::Seen {
     let outcome = search::search(n, start, step, bad, states, levels, path, allowance);
-    let verdict = outcome.verdict;
-    let list = call::evidence(states, path, verdict);
+    let list = call::evidence(states, path, outcome);
     let seen = see(outcome, list);
-    accept(tally, seen.said, n, start, step, bad, table, list);
-    tally::count(
-        tally,
-        tally::NOT_ZERO,
-        tally::one(!cleared(states, levels, path, seen)),
+    accept(counts, seen.said, n, start, step, bad, table, list);
+    counts::count(
+        counts,
+        counts::NOT_ZERO,
+        counts::one(!cleared(states, levels, path, seen)),
     );
     seen
 }
 
 // A call with stores of the planned room.
 fn lend(
-    tally: &mut [u64; 45],
+    counts: &mut [u64; 45],
     n: u32,
     start: &[u64],
     step: &[u64],
     bad: &[u64],
     table: &[bool],
     p: Plan,
-) -> tally::Seen {
+) -> counts::Seen {
     let mut states = [FILLED; 1024];
     let mut levels = [FILLED as u32; 1024];
     let mut path = [FILLED; 1026];
     let room = p.room % 1025;
     let more = room + 2;
     run(
-        tally,
+        counts,
         n,
         start,
         step,
@@ -212,26 +217,26 @@ fn goes_on(n: u32, table: &[bool], s: usize) -> bool {
 }
 
 // One state more is known.
-fn know(k: tally::Known, start: bool, bad: bool, on: bool, doom: u32) -> tally::Known {
+fn know(k: counts::Known, start: bool, bad: bool, on: bool, doom: u32) -> counts::Known {
     let doomed = !start & (doom != small_systems::NEVER);
-    tally::Known {
-        m: std::num::wrapping_add_usize(k.m, tally::one(doomed) as usize),
+    counts::Known {
+        m: std::num::wrapping_add_usize(k.m, counts::one(doomed) as usize),
         steps: if start & (doom < k.steps) {
             doom
         } else {
             k.steps
         },
-        starts: std::num::wrapping_add_usize(k.starts, tally::one(start) as usize),
-        bads: std::num::wrapping_add_usize(k.bads, tally::one(bad) as usize),
-        ends: std::num::wrapping_add_usize(k.ends, tally::one(!on) as usize),
+        starts: std::num::wrapping_add_usize(k.starts, counts::one(start) as usize),
+        bads: std::num::wrapping_add_usize(k.bads, counts::one(bad) as usize),
+        ends: std::num::wrapping_add_usize(k.ends, counts::one(!on) as usize),
     }
 }
 
-fn survey(n: u32, table: &[bool]) -> tally::Known {
+fn survey(n: u32, table: &[bool]) -> counts::Known {
     let mut doom = [0u32; 1024];
     small_systems::distances(n, table, true, &mut doom);
     let end = small_systems::size(n) % 1025;
-    let mut k = tally::Known {
+    let mut k = counts::Known {
         m: 0,
         steps: small_systems::NEVER,
         starts: 0,
@@ -249,7 +254,7 @@ fn survey(n: u32, table: &[bool]) -> tally::Known {
 }
 
 // The call after the one with this number. From the third on the least room that suffices is looked for between low and high, halving.
-fn next_plan(p: Plan, m: usize, turn: u64, first: tally::Seen, seen: tally::Seen) -> Plan {
+fn next_plan(p: Plan, m: usize, turn: u64, first: counts::Seen, seen: counts::Seen) -> Plan {
     if turn < 2 {
         let less = std::num::wrapping_sub_u32(first.questions, turn as u32);
         return Plan {
@@ -272,7 +277,7 @@ fn next_plan(p: Plan, m: usize, turn: u64, first: tally::Seen, seen: tally::Seen
     };
     Plan {
         room: std::num::wrapping_add_usize(low, high) / 2,
-        allowance: tally::most(m),
+        allowance: counts::most(m),
         low,
         high,
     }
@@ -280,22 +285,22 @@ fn next_plan(p: Plan, m: usize, turn: u64, first: tally::Seen, seen: tally::Seen
 
 // All calls of a system: at most 3, and 11 to find the least room.
 fn calls(
-    tally: &mut [u64; 45],
+    counts: &mut [u64; 45],
     n: u32,
     start: &[u64],
     step: &[u64],
     bad: &[u64],
     table: &[bool],
-    k: tally::Known,
+    k: counts::Known,
 ) {
     let m = k.m;
     let mut p = Plan {
         room: m,
-        allowance: tally::most(m),
+        allowance: counts::most(m),
         low: 0,
         high: m,
     };
-    let mut first = tally::Seen {
+    let mut first = counts::Seen {
         number: 0,
         said: 0,
         length: 0,
@@ -304,18 +309,18 @@ fn calls(
     };
     let mut turn = 0;
     while turn < 16 && (turn < 3 || p.low < p.high) {
-        let seen = lend(tally, n, start, step, bad, table, p);
+        let seen = lend(counts, n, start, step, bad, table, p);
         first = if turn == 0 { seen } else { first };
-        tally::enter(tally, k, turn, first, seen);
+        counts::enter(counts, k, turn, first, seen);
         p = next_plan(p, m, turn, first, seen);
         turn += 1;
     }
-    tally::count(tally, tally::ROOMS, p.high as u64);
+    counts::count(counts, counts::ROOMS, p.high as u64);
 }
 
 // One system.
 fn trial(
-    tally: &mut [u64; 45],
+    counts: &mut [u64; 45],
     table: &mut [bool],
     n: u32,
     kind: u64,
@@ -325,12 +330,12 @@ fn trial(
 ) {
     small_systems::table(n, start, step, bad, table);
     let k = survey(n, table);
-    tally::enter_system(tally, n, kind, k);
-    calls(tally, n, start, step, bad, table, k);
+    counts::enter_system(counts, n, kind, k);
+    calls(counts, n, start, step, bad, table, k);
 }
 
 // System number i.
-fn system(tally: &mut [u64; 45], table: &mut [bool], i: u64, shape: u64) {
+fn system(counts: &mut [u64; 45], table: &mut [bool], i: u64, shape: u64) {
     let mut start = [0u64; 2048];
     let mut step = [0u64; 8192];
     let mut bad = [0u64; 2048];
@@ -341,7 +346,7 @@ fn system(tally: &mut [u64; 45], table: &mut [bool], i: u64, shape: u64) {
     let b = small_systems::fill(kind, many, n, true, shape ^ STEP_SEED, &mut step);
     let c = systems::states_in(n, kind, shape >> 40, shape ^ BAD_SEED, &mut bad);
     trial(
-        tally,
+        counts,
         table,
         n,
         kind,
@@ -352,14 +357,14 @@ fn system(tally: &mut [u64; 45], table: &mut [bool], i: u64, shape: u64) {
 }
 
 fn main() {
-    let mut tally = [0u64; 45];
+    let mut counts = [0u64; 45];
     let mut table = [false; 1050624];
     let mut seed = SEED;
     let mut i = 0;
     while i < SYSTEMS {
         seed = small_systems::next(seed);
-        system(&mut tally, &mut table, i, seed);
+        system(&mut counts, &mut table, i, seed);
         i += 1;
     }
-    tally::write(&tally);
+    counts::write(&counts);
 }

@@ -101,23 +101,23 @@ fn wide(x: u32) -> u64 {
     x as u64
 }
 
-fn write_verdict(verdict: call::Verdict) {
-    match verdict {
-        call::Verdict::SafeBy(_) => write(b" safe"),
-        call::Verdict::UnsafeBy(_) => write(b" unsafe"),
-        call::Verdict::Neither => write(b" neither"),
+fn write_verdict(outcome: call::Outcome) {
+    match outcome {
+        call::Outcome::Safe(_, _) => write(b" safe"),
+        call::Outcome::Unsafe(_, _) => write(b" unsafe"),
+        call::Outcome::GaveUp(_, _) => write(b" neither"),
+        call::Outcome::Refused(_) => write(b" neither"),
     }
 }
 
 // What the line of a call has behind the name.
 fn write_line<'a>(outcome: call::Outcome, states: &'a [u64], levels: &[u32], path: &'a [u64]) {
-    let verdict = outcome.verdict;
     write(b": ");
-    io::print_decimal(1, wide(outcome.number));
-    write_verdict(verdict);
+    io::print_decimal(1, wide(call::number(outcome)));
+    write_verdict(outcome);
     write(b", questions ");
-    io::print_decimal(1, wide(outcome.questions));
-    write_numbers(b", evidence", call::evidence(states, path, verdict));
+    io::print_decimal(1, wide(call::questions(outcome)));
+    write_numbers(b", evidence", call::evidence(states, path, outcome));
     write_numbers(b"; states", states);
     write_levels(levels);
     write_numbers(b"; path", path);

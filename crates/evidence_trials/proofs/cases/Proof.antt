@@ -5,10 +5,10 @@ use Rattle.evidence_trials.proofs.cases.Statement.{statement}
 use Rattle.evidence_trials.proofs.cases.Tie as tie
 
 abbrev Inv-loop : tie.InvT-loop
-Inv-loop tally₀ own n start step bad table list k code₀ tally code = Unit {0}
+Inv-loop counts₀ own n start step bad table list k code₀ counts code = Unit {0}
 
 abbrev μ-loop : tie.MeasureT-loop
-μ-loop tally₀ own n start step bad table list k code₀ tally code = 16384 - code
+μ-loop counts₀ own n start step bad table list k code₀ counts code = 16384 - code
 
 pub cases-spec : {M : Type 1} → statement M
 cases-spec =

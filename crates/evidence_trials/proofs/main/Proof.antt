@@ -5,10 +5,10 @@ use Rattle.evidence_trials.proofs.main.Statement.{statement}
 use Rattle.evidence_trials.proofs.main.Tie as tie
 
 abbrev Inv-loop : tie.InvT-loop
-Inv-loop tally₀ seed₀ i₀ tally seed i = Unit {0}
+Inv-loop counts₀ seed₀ i₀ counts seed i = Unit {0}
 
 abbrev μ-loop : tie.MeasureT-loop
-μ-loop tally₀ seed₀ i₀ tally seed i = 128 - i
+μ-loop counts₀ seed₀ i₀ counts seed i = 128 - i
 
 pub main-spec : {M : Type 1} → statement M
 main-spec =

@@ -8,7 +8,7 @@ use borrow.Author.Needs.{needs}
 use lib.ListN.{length}
 use Rattle.call.specs.Call.{ended}
 use Rattle.call.specs.Promise.{stores}
-use Rattle.search.proofs.Closing.{Closable, closes-safe, closes-unsafe, closes-neither}
+use Rattle.search.proofs.Closing.{Closable, closes-safe, closes-unsafe, closes-given-up}
 use Rattle.search.proofs.close.Statement.{statement}
 use Rattle.search.proofs.close.Tie as tie
 
@@ -22,7 +22,7 @@ keep-requires c κs =
 closable : (m : tie.At-match-came)
     → (let a = m .before .before .before .before .args in
     Closable (stores (a .states .now) (a .levels .now) (a .path .now)) (a .ending .verdict) (a .ending .questions)
-    (m .match .states) (m .match .front) (m .match .len) (m .match .number) (m .match .says))
+    (m .match .states) (m .match .front) (m .match .len) (m .match .outcome))
 unfolding ended
 closable m =
     let s = m .before .before .before .before in
@@ -30,13 +30,13 @@ closable m =
     (λ w. let e = w .1 .given in
     let k = w .5 .ensures in
     let b : e .0 .1 .0 ≤ length (s .args .states .now) = rw (s .pre .same) at (rw (e .1) at (s .pre .counted)) in
-    rw (w .8, w .9, w .10, w .11, w .12) (closes-safe _ _ _ _ _ _ _ (e .1) (k .front) (omega (arith, k .few, w .5 .kept .0, b)) (w .5 .kept .0)))
+    rw (w .8, w .9, w .10, w .11) (closes-safe _ _ _ _ _ _ _ (e .1) (k .front) (omega (arith, k .few, w .5 .kept .0, b)) (w .5 .kept .0)))
     (⊎-elim
     (λ w. let e = w .1 .given in
-    rw (w .3, w .4, w .5, w .6, w .7) (closes-unsafe _ _ _ _ (e .1) (rw (e .1) at (s .pre .counted))))
+    rw (w .3, w .4, w .5, w .6) (closes-unsafe _ _ _ _ (e .1) (rw (e .1) at (s .pre .counted))))
     (⊎-elim
-    (λ w. rw (w .2, w .3, w .4, w .5, w .6) (closes-neither _ _ _ _ _ (w .1 .given .1) refl))
-    (λ w. rw (w .2, w .3, w .4, w .5, w .6) (closes-neither _ _ _ _ _ (w .1 .given .1) refl))))
+    (λ w. rw (w .2, w .3, w .4, w .5) (closes-given-up _ _ _ _ _ (w .1 .given .1) refl))
+    (λ w. rw (w .2, w .3, w .4, w .5) (closes-given-up _ _ _ _ _ (w .1 .given .1) refl))))
     (m .match .came)
 
 finish-requires : tie.Need-finish-requires

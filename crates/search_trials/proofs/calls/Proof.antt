@@ -5,10 +5,10 @@ use Rattle.search_trials.proofs.calls.Statement.{statement}
 use Rattle.search_trials.proofs.calls.Tie as tie
 
 abbrev Inv-loop : tie.InvT-loop
-Inv-loop tally₀ n start step bad table k m p₀ first₀ turn₀ tally p first turn = Unit {0}
+Inv-loop counts₀ n start step bad table k m p₀ first₀ turn₀ counts p first turn = Unit {0}
 
 abbrev μ-loop : tie.MeasureT-loop
-μ-loop tally₀ n start step bad table k m p₀ first₀ turn₀ tally p first turn = 16 - turn
+μ-loop counts₀ n start step bad table k m p₀ first₀ turn₀ counts p first turn = 16 - turn
 
 pub calls-spec : {M : Type 1} → statement M
 calls-spec =

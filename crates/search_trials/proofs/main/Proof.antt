@@ -8,10 +8,10 @@ use Rattle.search_trials.proofs.main.Statement.{statement}
 use Rattle.search_trials.proofs.main.Tie as tie
 
 abbrev Inv-loop : tie.InvT-loop
-Inv-loop tally₀ table₀ seed₀ i₀ tally table seed i = length table ≡ 1050624
+Inv-loop counts₀ table₀ seed₀ i₀ counts table seed i = length table ≡ 1050624
 
 abbrev μ-loop : tie.MeasureT-loop
-μ-loop tally₀ table₀ seed₀ i₀ tally table seed i = 5440 - i
+μ-loop counts₀ table₀ seed₀ i₀ counts table seed i = 5440 - i
 
 loop-holds : tie.Need-loop-holds Inv-loop μ-loop
 loop-holds c = length-replicate 1050624 false

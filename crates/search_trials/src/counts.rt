@@ -7,7 +7,7 @@ pub const UNSAFE: u64 = 1;
 
 pub const NEITHER: u64 = 2;
 
-// Where the tally counts: systems by their bits, less 1, and by the kind of their steps; systems with something special; what was said; sums; how
+// What is counted, by its place: systems by their bits, less 1, and by the kind of their steps; systems with something special; what was said; sums; how
 // the calls ended; a digest of all calls in turn; and what is not as the walk says or as it must be.
 const TALLY: usize = 45;
 
@@ -82,9 +82,9 @@ pub struct Seen {
     pub digest: u64,
 }
 
-pub fn count(tally: &mut [u64; 45], at: usize, more: u64) {
+pub fn count(counts: &mut [u64; 45], at: usize, more: u64) {
     let j = at % TALLY;
-    tally[j] = std::num::wrapping_add_u64(tally[j], more);
+    counts[j] = std::num::wrapping_add_u64(counts[j], more);
 }
 
 // One, if it is so.
@@ -99,37 +99,37 @@ pub fn most(m: usize) -> u32 {
 }
 
 // What is special about a system.
-pub fn enter_system(tally: &mut [u64; 45], n: u32, kind: u64, k: Known) {
-    count(tally, std::num::wrapping_sub_u32(n, 1) as usize, 1);
-    count(tally, KINDS + (kind % 8) as usize, 1);
-    count(tally, NO_START, one(k.starts == 0));
-    count(tally, NO_BAD, one(k.bads == 0));
-    count(tally, ALL_BAD, one(k.bads == small_systems::size(n)));
+pub fn enter_system(counts: &mut [u64; 45], n: u32, kind: u64, k: Known) {
+    count(counts, std::num::wrapping_sub_u32(n, 1) as usize, 1);
+    count(counts, KINDS + (kind % 8) as usize, 1);
+    count(counts, NO_START, one(k.starts == 0));
+    count(counts, NO_BAD, one(k.bads == 0));
+    count(counts, ALL_BAD, one(k.bads == small_systems::size(n)));
     count(
-        tally,
+        counts,
         NOT_REACHED,
         one((k.bads != 0) & (k.steps == small_systems::NEVER)),
     );
-    count(tally, DEAD_ENDS, one(k.ends != 0));
-    count(tally, DOOMED, k.m as u64);
+    count(counts, DEAD_ENDS, one(k.ends != 0));
+    count(counts, DOOMED, k.m as u64);
 }
 
 // The first call of a system, with room m and allowance 3(m+2)(m+2), against the walk.
-fn enter_first(tally: &mut [u64; 45], k: Known, seen: Seen) {
+fn enter_first(counts: &mut [u64; 45], k: Known, seen: Seen) {
     let reached = k.steps != small_systems::NEVER;
     let wanted = std::num::wrapping_add_u32(k.steps, 1) as usize;
     let unsafe_said = seen.said == UNSAFE;
     let at = (seen.said % 2) as usize;
-    count(tally, SAID + at, 1);
-    count(tally, LENGTHS + at, seen.length as u64);
-    count(tally, QUESTIONS, seen.questions as u64);
-    count(tally, ANSWERED, one(seen.number == 0));
-    count(tally, GAVE_UP, one(seen.number != 0));
-    count(tally, VERDICT, one(seen.said != one(reached)));
-    count(tally, SHORTEST, one(unsafe_said & (seen.length != wanted)));
-    count(tally, TOO_MANY, one(most(k.m) < seen.questions));
-    if unsafe_said & (tally[LONGEST] < seen.length as u64) {
-        tally[LONGEST] = seen.length as u64;
+    count(counts, SAID + at, 1);
+    count(counts, LENGTHS + at, seen.length as u64);
+    count(counts, QUESTIONS, seen.questions as u64);
+    count(counts, ANSWERED, one(seen.number == 0));
+    count(counts, GAVE_UP, one(seen.number != 0));
+    count(counts, VERDICT, one(seen.said != one(reached)));
+    count(counts, SHORTEST, one(unsafe_said & (seen.length != wanted)));
+    count(counts, TOO_MANY, one(most(k.m) < seen.questions));
+    if unsafe_said & (counts[LONGEST] < seen.length as u64) {
+        counts[LONGEST] = seen.length as u64;
     }
 }
 
@@ -144,37 +144,37 @@ fn same(a: Seen, b: Seen) -> bool {
 
 // A later call of the system. With the allowance that was used it is the first again, and with one less it ends with 5. With less room it is the
 // first again, or ends with 6.
-fn enter_later(tally: &mut [u64; 45], turn: u64, first: Seen, seen: Seen) {
+fn enter_later(counts: &mut [u64; 45], turn: u64, first: Seen, seen: Seen) {
     if turn == 1 || seen.number == 0 {
-        count(tally, OTHER, one(!same(first, seen)));
+        count(counts, OTHER, one(!same(first, seen)));
         return;
     }
     let spent = (seen.number == 5)
         & (std::num::wrapping_sub_u32(first.questions, seen.questions) == 1);
     let right = if turn == 2 { spent } else { seen.number == 6 };
-    count(tally, NUMBER, one(!right | (seen.said != NEITHER)));
+    count(counts, NUMBER, one(!right | (seen.said != NEITHER)));
 }
 
 // What each call adds.
-fn enter_call(tally: &mut [u64; 45], seen: Seen) {
-    count(tally, CALLS, 1);
-    count(tally, SPENT, one(seen.number == 5));
-    count(tally, NO_ROOM, one(seen.number == 6));
-    tally[DIGEST] = small_systems::next(tally[DIGEST] ^ seen.digest);
+fn enter_call(counts: &mut [u64; 45], seen: Seen) {
+    count(counts, CALLS, 1);
+    count(counts, SPENT, one(seen.number == 5));
+    count(counts, NO_ROOM, one(seen.number == 6));
+    counts[DIGEST] = small_systems::next(counts[DIGEST] ^ seen.digest);
 }
 
 // A turn's call entered.
-pub fn enter(tally: &mut [u64; 45], k: Known, turn: u64, first: Seen, seen: Seen) {
-    enter_call(tally, seen);
+pub fn enter(counts: &mut [u64; 45], k: Known, turn: u64, first: Seen, seen: Seen) {
+    enter_call(counts, seen);
     if turn == 0 {
-        enter_first(tally, k, seen);
+        enter_first(counts, k, seen);
     } else {
-        enter_later(tally, turn, first, seen);
+        enter_later(counts, turn, first, seen);
     }
 }
 
 // Names of equal width, each with its number behind it.
-fn lines(tally: &[u64; 45], first: usize, names: &[u8]) {
+fn lines(counts: &[u64; 45], first: usize, names: &[u8]) {
     let mut j = first;
     let mut at = 0;
     while at < names.len() {
@@ -182,7 +182,7 @@ fn lines(tally: &[u64; 45], first: usize, names: &[u8]) {
         if at <= end {
             if end <= names.len() {
                 io::write_all(1, &names[at..end]);
-                io::print_decimal(1, tally[j % TALLY]);
+                io::print_decimal(1, counts[j % TALLY]);
                 io::write_all(1, b"\n");
             }
         }
@@ -191,63 +191,63 @@ fn lines(tally: &[u64; 45], first: usize, names: &[u8]) {
     }
 }
 
-fn write_systems(tally: &[u64; 45]) {
+fn write_systems(counts: &[u64; 45]) {
     lines(
-        tally,
+        counts,
         0,
         b"systems of 1 bit         systems of 2 bits        systems of 3 bits        systems of 4 bits        systems of 5 bits        ",
     );
     lines(
-        tally,
+        counts,
         5,
         b"systems of 6 bits        systems of 7 bits        systems of 8 bits        systems of 9 bits        systems of 10 bits       ",
     );
     lines(
-        tally,
+        counts,
         10,
         b"no steps                 all steps                some steps               steps by short clauses   ",
     );
     lines(
-        tally,
+        counts,
         14,
         b"steps to the next        to the next and itself   steps down               a counter's steps        ",
     );
     lines(
-        tally,
+        counts,
         18,
         b"no start state           no bad state             all states bad           bad states not reached   states without a next    ",
     );
 }
 
-fn write_calls(tally: &[u64; 45]) {
+fn write_calls(counts: &[u64; 45]) {
     lines(
-        tally,
+        counts,
         23,
         b"safe                     unsafe                   states excluded          states in paths          sum of m                 ",
     );
     lines(
-        tally,
+        counts,
         28,
         b"sum of questions         sum of rooms used        longest path             calls                    ",
     );
     lines(
-        tally,
+        counts,
         32,
         b"room m sufficed          calls that gave 5        calls that gave 6        digest of all calls      ",
     );
     lines(
-        tally,
+        counts,
         36,
         b"gave up with room m      verdict differs          path length differs      too many questions       evidence check refuses   ",
     );
     lines(
-        tally,
+        counts,
         41,
         b"walk refuses             store not zero           other answer             number not 5 or 6        ",
     );
 }
 
-pub fn write(tally: &[u64; 45]) {
-    write_systems(tally);
-    write_calls(tally);
+pub fn write(counts: &[u64; 45]) {
+    write_systems(counts);
+    write_calls(counts);
 }

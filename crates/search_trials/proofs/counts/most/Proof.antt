@@ -1,10 +1,10 @@
--- `search_trials::tally::most` is safe and ends. A product of two numbers that are no greater is no greater. Assumes nothing.
+-- `search_trials::counts::most` is safe and ends. A product of two numbers that are no greater is no greater. Assumes nothing.
 use Prim.Native.Nat.{_+_, _*_, _≤_, _%_}
 use borrow.Author.Needs.{needs}
 use native.Mathlib.Nat.{mul-le-mul}
 use native.Mathlib.Omega.{arith}
-use Rattle.search_trials.proofs.tally.most.Statement.{statement}
-use Rattle.search_trials.proofs.tally.most.Tie as tie
+use Rattle.search_trials.proofs.counts.most.Statement.{statement}
+use Rattle.search_trials.proofs.counts.most.Tie as tie
 
 mul-result-2 : tie.Need-mul-result-2
 mul-result-2 c =

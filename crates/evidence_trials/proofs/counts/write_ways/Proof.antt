@@ -1,18 +1,17 @@
--- `search_trials::tally::lines` is safe and ends. The measure is what is left of the names. Assumes nothing.
+-- `evidence_trials::counts::write_ways` is safe and ends. The measure is how many lines are left. Assumes nothing.
 use Prim.Native.Nat.{_-_}
 use borrow.Author.Needs.{needs}
-use lib.ListN.{length}
-use Rattle.search_trials.proofs.tally.lines.Statement.{statement}
-use Rattle.search_trials.proofs.tally.lines.Tie as tie
+use Rattle.evidence_trials.proofs.counts.write_ways.Statement.{statement}
+use Rattle.evidence_trials.proofs.counts.write_ways.Tie as tie
 
 abbrev Inv-loop : tie.InvT-loop
-Inv-loop tally first names j₀ at₀ t7 j at = Unit {0}
+Inv-loop counts j₀ t4 t5 j = Unit {0}
 
 abbrev μ-loop : tie.MeasureT-loop
-μ-loop tally first names j₀ at₀ t7 j at = length names - at
+μ-loop counts j₀ t4 t5 j = 24 - j
 
-pub lines-spec : {M : Type 1} → statement M
-lines-spec =
+pub write-ways-spec : {M : Type 1} → statement M
+write-ways-spec =
     tie.close
     (tie.spec
     Inv-loop

@@ -1,17 +1,18 @@
--- `evidence_trials::tally::write_ways` is safe and ends. The measure is how many lines are left. Assumes nothing.
+-- `search_trials::counts::lines` is safe and ends. The measure is what is left of the names. Assumes nothing.
 use Prim.Native.Nat.{_-_}
 use borrow.Author.Needs.{needs}
-use Rattle.evidence_trials.proofs.tally.write_ways.Statement.{statement}
-use Rattle.evidence_trials.proofs.tally.write_ways.Tie as tie
+use lib.ListN.{length}
+use Rattle.search_trials.proofs.counts.lines.Statement.{statement}
+use Rattle.search_trials.proofs.counts.lines.Tie as tie
 
 abbrev Inv-loop : tie.InvT-loop
-Inv-loop tally j₀ t4 t5 j = Unit {0}
+Inv-loop counts first names j₀ at₀ t7 j at = Unit {0}
 
 abbrev μ-loop : tie.MeasureT-loop
-μ-loop tally j₀ t4 t5 j = 24 - j
+μ-loop counts first names j₀ at₀ t7 j at = length names - at
 
-pub write-ways-spec : {M : Type 1} → statement M
-write-ways-spec =
+pub lines-spec : {M : Type 1} → statement M
+lines-spec =
     tie.close
     (tie.spec
     Inv-loop
