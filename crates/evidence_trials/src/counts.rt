@@ -4,7 +4,7 @@ use super::checks;
 // What is counted, by its place: four answers for each way, first of excluded states, then of paths, then of either given to the other check. Behind them
 // the lists of evidence, the questions of all yes, a digest of all answers in turn, the answers that the walk would not give, and the counts of
 // questions that are not right.
-const TALLY: usize = 102;
+const PLACES: usize = 102;
 
 pub const SAFE: usize = 96;
 
@@ -19,7 +19,7 @@ const DIFFER: usize = 100;
 const QUESTIONS_WRONG: usize = 101;
 
 pub fn count(counts: &mut [u64; 102], at: usize, more: u64) {
-    let j = at % TALLY;
+    let j = at % PLACES;
     counts[j] = std::num::wrapping_add_u64(counts[j], more);
 }
 
@@ -63,10 +63,19 @@ pub fn write_name(names: &[u8], first: usize, width: usize) {
 
 // A line of the counts: four numbers.
 fn write_four(counts: &[u64; 102], first: usize) {
-    report(b" ", counts[first % TALLY]);
-    report(b" ", counts[std::num::wrapping_add_usize(first, 1) % TALLY]);
-    report(b" ", counts[std::num::wrapping_add_usize(first, 2) % TALLY]);
-    report(b" ", counts[std::num::wrapping_add_usize(first, 3) % TALLY]);
+    report(b" ", counts[first % PLACES]);
+    report(
+        b" ",
+        counts[std::num::wrapping_add_usize(first, 1) % PLACES],
+    );
+    report(
+        b" ",
+        counts[std::num::wrapping_add_usize(first, 2) % PLACES],
+    );
+    report(
+        b" ",
+        counts[std::num::wrapping_add_usize(first, 3) % PLACES],
+    );
     io::write_all(1, b"\n");
 }
 

@@ -12,5 +12,4 @@ pub mod Limits
 pub mod Taking
 pub mod Reading
 pub mod Cut
-pub mod Again
 pub mod Lending

@@ -1,10 +1,10 @@
 -- Line after line. What is left of the text, from where reading stands, says what the whole text says, until a line is refused or the text ends.
 -- Assumes nothing.
-use Prim.Native.Nat.{ℕ, suc, _+_, _-_, _≤_, _<_}
+use Prim.Native.Nat.{ℕ, suc, _+_, _-_, _<_}
 use mathlib.Core.Bool.{true, false}
 use mathlib.Core.List.{List, [], _∷_}
 use mathlib.Core.Logic.{⊎-elim}
-use mathlib.Core.Path.{_≡_, refl, sym, ap, _∙_}
+use mathlib.Core.Path.{_≡_, refl, sym, _∙_}
 use native.Mathlib.Numerals.{add-one}
 use native.Mathlib.Omega.{arith}
 use borrow.Author.Tests.{eq-eqb, ne-eqb, ltb-true, ltb-false}
@@ -19,12 +19,10 @@ use Rattle.house.specs.File.{Rooms, Reading, Taken, on, refuse, lineTake
 use Rattle.house.specs.Promise.{Lists, lists, roomsOf, filled, resultOf}
 use Rattle.house.specs.Lent.{Says, Lie, readingOf, Same, Enters, Takes, begun, saidFrom, Stands, Turned, Ended, refusedAt, houseOf, Took}
 use Rattle.house.specs.declared.Line.{Line}
-use Rattle.house.specs.declared.House.{House}
 use Rattle.house.specs.declared.Place.{Place}
 use Rattle.house.specs.declared.Progress.{Progress}
 use Rattle.house.specs.declared.Turn.{Turn}
 use Rattle.house.specs.declared.Turn.the-variants.{On, Refused}
-use Rattle.house.proofs.Entering.{same-refl}
 use Rattle.house.proofs.Limits.{said-limited}
 
 -- ---- a line
@@ -136,7 +134,8 @@ module _ {text : List ℕ} {i : ℕ} {s : Progress} {l : Lists} (w : Stands text
       }
 
 -- no line is left
-pub ended : {text : List ℕ} {i : ℕ} {s : Progress} {l : Lists} (before : Lists) → Stands text i s l → s .more ≡ false → Same before l → Ended text before s l
+pub ended : {text : List ℕ} {i : ℕ} {s : Progress} {l : Lists} (before : Lists) → Stands text i s l → s .more ≡ false → Same before l
+    → Ended text before s l
 unfolding lines
 ended {text} {i} {s} {l} before w e same =
     record {
@@ -178,7 +177,8 @@ module _ (text : List ℕ) (before : Lists) (s : Progress) (after : Lists) (w : 
   took-file z f =
       let v = w .lie z in
       let p = s .place in
-      let e : said (roomsOf before) text ≡ file (readingOf p after) = sym whole ∙ from-on [] s after z ∙ read-end (roomsOf after) (s .line) (readingOf p after) f in
+      let e : said (roomsOf before) text ≡ file (readingOf p after) =
+      sym whole ∙ from-on [] s after z ∙ read-end (roomsOf after) (s .line) (readingOf p after) f in
       rw (house-file s z f)
       (record {
         same = w .same;
@@ -199,7 +199,8 @@ module _ (text : List ℕ) (before : Lists) (s : Progress) (after : Lists) (w : 
       ⊎-elim
       (λ z. ⊎-elim (took-file z)
       (λ f. rw (house-stopped s z f)
-      (took-refused text before after 10 (s .line) (w .same) (sym whole ∙ from-on [] s after z ∙ read-stop (roomsOf after) (s .line) (readingOf (s .place) after) f)))
+      (took-refused text before after 10 (s .line) (w .same)
+      (sym whole ∙ from-on [] s after z ∙ read-stop (roomsOf after) (s .line) (readingOf (s .place) after) f)))
       (eq-or-ne (s .place .stage) 16))
       (λ f. rw (house-refused s f) (took-refused text before after (s .number) (s .line) (w .same) (sym whole ∙ from-refused [] s after f)))
       (eq-or-ne (s .number) 0)

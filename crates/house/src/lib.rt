@@ -1,4 +1,5 @@
-// House files: a text is read into three lent clause stores, a line at a time. A line is parsed by itself; what it says is then entered.
+// House files: a text is read into three lent clause stores, line after line, as a reader's place moves. A line is parsed by itself; what it says is
+// then entered.
 ghost use mathlib.Core.Path.{_≡_};
 ghost use mathlib.Core.Bool.{true};
 ghost use mathlib.Core.List.{[]};
@@ -9,7 +10,7 @@ ghost use Rattle.text.specs.Lines.{lineLength, LineAt};
 ghost use Rattle.house.specs.Text.{digit, sum, number};
 ghost use Rattle.house.specs.File.{inPlace, width, lengthFor};
 ghost use Rattle.house.specs.Promise.{lists, filled, Reads};
-ghost use Rattle.house.specs.Lent.{byteAt, frameAt, NumberAt, FrameAt, Says, PutAs, Lie, oneMore, Enters, Takes, begun, Stands, Turned, Ended, houseOf, Took};
+ghost use Rattle.house.specs.Lent.{byteAt, frameAt, NumberAt, FrameAt, Says, PutAs, Lie, oneMore, Enters, Takes, begun, Stands, Turned, Ended, refusedAt, houseOf, Took};
 ghost use Rattle.house.specs.declared.Line.the-variants.{Clause};
 
 // With the number 0, n and the counts of masks; with a refusal, its line, and all else 0.
@@ -313,6 +314,8 @@ fn take_line(
     enter(p, said, start, step, bad)
 }
 
+// ---- line after line
+
 // Nothing was read.
 fn begin(text: &[u8]) -> Progress
     ensures { λ r. ⌜ r ≡ begun (now (text .entry)) ⌝ }
@@ -332,7 +335,7 @@ fn begin(text: &[u8]) -> Progress
     }
 }
 
-// The line from this index to its end is taken.
+// The line from this index to its end, taken; a refusal ends the reading.
 fn take_turn(
     text: &[u8],
     at: usize,
@@ -363,7 +366,7 @@ fn take_turn(
     }
 }
 
-// Line after line, as the reader's place moves, into stores that are all zero.
+// A reader keeps the text and its place in it, and its place moves by a line a turn.
 fn take_lines(
     text: &[u8],
     mut s: Progress,
@@ -385,7 +388,7 @@ fn take_lines(
 
 // A refusal and its line.
 fn refused_at(number: u32, line: usize) -> House
-    ensures { λ r. ⌜ r ≡ record { number = number; line = line; n = 0; start = 0; step = 0; bad = 0 } ⌝ }
+    ensures { λ r. ⌜ r ≡ refusedAt number line ⌝ }
 {
     House {
         number,

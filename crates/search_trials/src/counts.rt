@@ -9,7 +9,7 @@ pub const NEITHER: u64 = 2;
 
 // What is counted, by its place: systems by their bits, less 1, and by the kind of their steps; systems with something special; what was said; sums; how
 // the calls ended; a digest of all calls in turn; and what is not as the walk says or as it must be.
-const TALLY: usize = 45;
+const PLACES: usize = 45;
 
 const KINDS: usize = 10;
 
@@ -83,7 +83,7 @@ pub struct Seen {
 }
 
 pub fn count(counts: &mut [u64; 45], at: usize, more: u64) {
-    let j = at % TALLY;
+    let j = at % PLACES;
     counts[j] = std::num::wrapping_add_u64(counts[j], more);
 }
 
@@ -182,7 +182,7 @@ fn lines(counts: &[u64; 45], first: usize, names: &[u8]) {
         if at <= end {
             if end <= names.len() {
                 io::write_all(1, &names[at..end]);
-                io::print_decimal(1, counts[j % TALLY]);
+                io::print_decimal(1, counts[j % PLACES]);
                 io::write_all(1, b"\n");
             }
         }

@@ -1,14 +1,12 @@
 -- The first line of a text, byte by byte: a line feed ends it, and any other byte stands in front of the first line of the rest. So the first line is
 -- the front of the text, and the other lines are those of what stands behind it. Assumes nothing.
 use Prim.Native.Nat.{ℕ, suc, _+_, _≤_, _<_}
-use mathlib.Core.Bool.{Bool, true, false}
 use mathlib.Core.List.{List, [], _∷_}
-use mathlib.Core.Logic.{_⊎_, inl, inr, ⊎-elim}
+use mathlib.Core.Logic.{⊎-elim}
 use mathlib.Core.Path.{_≡_, refl, sym, ap, _∙_}
 use native.Mathlib.Numerals.{add-one}
 use native.Mathlib.Omega.{arith}
 use borrow.Author.Tests.{eq-eqb, ne-eqb}
-use lib.Dec.{eqb}
 use lib.ListN.{length, getD, take, drop, length-drop, drop-of-length-le}
 use lib.Seq.{drop-drop, drop-cons}
 use Rattle.base.proofs.Tests.{lt-or-ge, eq-or-ne}
@@ -83,13 +81,18 @@ length-ended text i h = rw (drop-of-length-le text h) length-none
 pub length-feed-at : (text : List ℕ) (i : ℕ) → i < length text → getD text i 0 ≡ 10 → lineLength (drop i text) ≡ 1
 length-feed-at text i h e = rw (drop-cons text i 0) (length-feed _ _ e)
 
-pub length-other-at : (text : List ℕ) (i : ℕ) → i < length text → (getD text i 0 ≡ 10 → ⊥) → lineLength (drop i text) ≡ lineLength (drop (i + 1) text) + 1
+pub length-other-at : (text : List ℕ) (i : ℕ) → i < length text → (getD text i 0 ≡ 10 → ⊥)
+    → lineLength (drop i text) ≡ lineLength (drop (i + 1) text) + 1
 length-other-at text i h f = rw (drop-cons text i 0, add-one i, add-one) (length-other _ _ f)
 
 pub line-at : (text : List ℕ) (i : ℕ) → i < length text → LineAt text i (lineLength (drop i text))
 line-at text i h =
     let f : Front (drop i text) (lineLength (drop i text)) = rw (drop-cons text i 0) (front _ _) in
-    record { filled = f .filled; within = omega (arith, f .within, length-drop i text); first = rw (← drop-drop (lineLength (drop i text)) i text) (f .first) }
+    record {
+      filled = f .filled;
+      within = omega (arith, f .within, length-drop i text);
+      first = rw (← drop-drop (lineLength (drop i text)) i text) (f .first);
+    }
 
 -- the place behind a line is an index of the text or its end, or where it was
 pub line-end : (text : List ℕ) (i bound : ℕ) → i < bound → length text < bound → i + lineLength (drop i text) < bound

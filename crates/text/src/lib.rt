@@ -1,4 +1,5 @@
-// Texts by line, a reader that keeps a text and its place in it, and writing into a lent buffer.
+// Texts by line, a reader that keeps a text and its place in it, and writing into a lent buffer. A function that holds a reader is proved by hand, so
+// the work is done by `line_length`, over a plain slice, and the two functions of the reader are thin.
 ghost use mathlib.Core.List.{[], _∷_};
 ghost use mathlib.Core.Path.{_≡_};
 ghost use Prim.Native.Nat.{_+_};
@@ -33,7 +34,7 @@ pub fn new<'a>(text: &'a [u8]) -> Reader<'a>
     Reader { text, at: 0 }
 }
 
-// The next line is taken: the reader stands behind it.
+// The next line is taken: the reader stands behind it, and stays where it is at the end of the text.
 pub fn next_line<'a>(r: Reader<'a>) -> Reader<'a>
     ensures { λ q. ⌜ (q .text ≡ r .entry .text) × (q .at ≡ r .entry .at + lineLength (drop (r .entry .at) (now (r .entry .text)))) ⌝ }
 {
