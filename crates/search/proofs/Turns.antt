@@ -6,6 +6,7 @@ use mathlib.Core.Path.{_≡_, sym, ap, _∙_}
 use native.Mathlib.Nat.{sub-zero}
 use native.Mathlib.Numerals.{add-one}
 use native.Mathlib.Omega.{arith}
+use lib.ListN.{length}
 use Rattle.ic3.specs.Model.{Model}
 use Rattle.ic3.specs.Search.{next, run, searched}
 use Rattle.ic3.specs.Search as ic3
@@ -62,17 +63,21 @@ module _ {n room N count : ℕ} {s : Stores} where
         below = w .shape .placed .below;
       }
 
--- the run that ends with `ending` stands at c, of the questions allowed `asked` are asked
-pub record Running (y : System) (room allowance : ℕ) (ending : ic3.Ending) (c : Config) (asked : ℕ) (s : Stores) : Type 0 where
-  pub ready : Ready (y .n) room c s
+-- the run that was begun over the stores s₀ and ends with `ending` stands at c, and of the questions allowed `asked` are asked
+pub record Running (y : System) (allowance : ℕ) (s₀ : Stores) (ending : ic3.Ending) (c : Config) (asked : ℕ) (s : Stores) : Type 0 where
+  pub ready : Ready (y .n) (length (s₀ .states)) c s
+  pub lengths : Lengths s₀ s
   pub within : asked ≤ allowance
-  pub rest : run (allowance - asked) (model y) room (configOf c s) asked ≡ ending
+  pub rest : run (allowance - asked) (model y) (length (s₀ .states)) (configOf c s) asked ≡ ending
 
-module _ {y : System} {room allowance : ℕ} {ending : ic3.Ending} {c : Config} {asked : ℕ} {s s' : Stores}
-    (w : Running y room allowance ending c asked s) (l : Lengths s s') where
+module _ {y : System} {allowance : ℕ} {s₀ : Stores} {ending : ic3.Ending} {c : Config} {asked : ℕ} {s s' : Stores}
+    (w : Running y allowance s₀ ending c asked s) (l : Lengths s s') where
+  abbrev room : ℕ
+  room = length (s₀ .states)
+
   -- the turn keeps the shape, in every system; and the rest of the run is one turn shorter
   pub running-go : {d : Config} → asked < allowance → Moves (Go d) s' (next (model y) room (configOf c s))
-      → Running y room allowance ending d (asked + 1) s'
+      → Running y allowance s₀ ending d (asked + 1) s'
   running-go {d} h m =
       let left : allowance - asked ≡ suc (allowance - (asked + 1)) = omega arith in
       record {
@@ -80,6 +85,11 @@ module _ {y : System} {room allowance : ℕ} {ending : ic3.Ending} {c : Config} 
           lends = lends-kept (w .ready .lends) l;
           shape = rw (sym (m .onward)) at (next-keeps-shape room (model y) (configOf c s) (w .ready .shape));
           indexed = m .bounded;
+        };
+        lengths = record {
+          states = l .states ∙ w .lengths .states;
+          levels = l .levels ∙ w .lengths .levels;
+          path = l .path ∙ w .lengths .path;
         };
         within = omega arith;
         rest = rw (add-one asked) (sym (run-go (model y) room (allowance - suc asked) (configOf c s) (configOf d s') asked (sym (m .onward)))
@@ -100,11 +110,11 @@ module _ {y : System} {room allowance : ℕ} {ending : ic3.Ending} {c : Config} 
       }
 
 -- the allowance is used up
-pub running-spent : {y : System} {room allowance : ℕ} {ending : ic3.Ending} {c : Config} {asked : ℕ} {s : Stores}
-    → Running y room allowance ending c asked s → allowance ≤ asked → Ends (y .n) room ending Spent asked s
-running-spent {y} {room} {allowance} {c = c} {asked} {s} w h =
+pub running-spent : {y : System} {allowance : ℕ} {s₀ : Stores} {ending : ic3.Ending} {c : Config} {asked : ℕ} {s : Stores}
+    → Running y allowance s₀ ending c asked s → allowance ≤ asked → Ends (y .n) (length (s₀ .states)) ending Spent asked s
+running-spent {y} {allowance} {s₀} {c = c} {asked} {s} w h =
     let none : allowance - asked ≡ 0 = omega arith in
-    let all = sym (rw none at (w .rest)) ∙ run-out (model y) room (configOf c s) asked in
+    let all = sym (rw none at (w .rest)) ∙ run-out (model y) (length (s₀ .states)) (configOf c s) asked in
     record {
       verdict = sym (ap (λ z. z .verdict) all);
       questions = sym (ap (λ z. z .questions) all);

@@ -14,23 +14,27 @@ use Rattle.search.proofs.Taken.{moves-to}
 use Rattle.search.proofs.react.round.Statement.{statement}
 use Rattle.search.proofs.react.round.Tie as tie
 
+record Goes (levels : List ℕ) (N count i j level from : ℕ) : Type 0 where
+  above : i ≤ level
+  below : level ≤ N
+  within : from ≤ count
+  same : (ss : List ℕ) → Tidy (storeOf count ss levels) → roundFrom N count i j ss levels ≡ roundFrom N count level from ss levels
+
 abbrev Inv-loop : tie.InvT-loop
-Inv-loop levels N count i j level₀ from₀ level from =
-    (i ≤ level) × (level ≤ N) × (from ≤ count)
-    × ((ss : List ℕ) → Tidy (storeOf count ss levels) → roundFrom N count i j ss levels ≡ roundFrom N count level from ss levels)
+Inv-loop levels N count i j level₀ from₀ level from = Goes levels N count i j level from
 
 abbrev μ-loop : tie.MeasureT-loop
 μ-loop levels N count i j level₀ from₀ level from = N - level
 
 loop-holds : tie.Need-loop-holds Inv-loop μ-loop
-loop-holds c = (search needs, search needs, search needs, λ ss w. refl)
+loop-holds c = record { above = search needs; below = search needs; within = search needs; same = λ ss w. refl }
 
 returns : tie.Need-returns Inv-loop μ-loop
 returns c =
     let here = c .before .before .before in
     λ ss path w.
     record {
-      onward = sym (here .loop .inv .3 ss w
+      onward = sym (here .loop .inv .same ss w
           ∙ round-raises _ _ _ _ w _ _ _ (omega arith) (omega arith) (omega arith) (c .before .next-at .ensures));
       bounded = omega arith;
     }
@@ -41,18 +45,18 @@ loop-again c =
     let args = here .before .before .args in
     let first = c .before .next-at in
     let all : first .result ≡ args .count = omega (arith, first .ensures .within) in
-    let absent : Absent (args .levels .now) (here .loop .from) (args .count) (here .loop .level) = rw all at (first .ensures .before) in (
-      search needs,
-      search needs,
-      search needs,
-      λ ss w. here .loop .inv .3 ss w
-          ∙ round-on _ _ _ _ w _ _ (omega arith) (omega arith) (omega arith) absent,
-    )
+    let absent : Absent (args .levels .now) (here .loop .from) (args .count) (here .loop .level) = rw all at (first .ensures .before) in
+    record {
+      above = search needs;
+      below = search needs;
+      within = search needs;
+      same = λ ss w. here .loop .inv .same ss w ∙ round-on _ _ _ _ w _ _ (omega arith) (omega arith) (omega arith) absent;
+    }
 
 returns-2 : tie.Need-returns-2 Inv-loop μ-loop
 returns-2 c =
     let here = c .before .before in
-    λ ss path w. moves-to (sym (here .loop .inv .3 ss w ∙ round-judged _ _ _ _ _ _ (omega arith))) (c .judge .ensures ss path)
+    λ ss path w. moves-to (sym (here .loop .inv .same ss w ∙ round-judged _ _ _ _ _ _ (omega arith))) (c .judge .ensures ss path)
 
 pub round-spec : {M : Type 1} → statement M
 round-spec =

@@ -1,7 +1,8 @@
 -- `search::store::gap` meets its contract. The loop over the levels has as its invariant that each level it passed is taken; the walk inside, that no
 -- entry it passed has the level. Where the walk ends at an entry, that entry takes the level; where it has passed all, the level is the gap.
 -- The measures are the levels and the entries left. Assumes nothing.
-use Prim.Native.Nat.{_≤_, _-_}
+use Prim.Native.Nat.{ℕ, _≤_, _-_}
+use mathlib.Core.List.{List}
 use native.Mathlib.Omega.{arith}
 use borrow.Author.Needs.{needs}
 use Rattle.search.proofs.Walks.{Passed, passed-none, passed-more, AllTaken, taken-none, taken-more}
@@ -14,14 +15,19 @@ Inv-loop levels count N i j₀ j = Passed levels 0 count i j
 abbrev μ-loop : tie.MeasureT-loop
 μ-loop levels count N i j₀ j = count - j
 
+record Climbs (levels : List ℕ) (count N i : ℕ) : Type 0 where
+  above : 1 ≤ i
+  below : i ≤ N
+  taken : AllTaken levels count i
+
 abbrev Inv-levels : tie.InvT-levels
-Inv-levels levels count N i₀ i = (1 ≤ i) × (i ≤ N) × AllTaken levels count i
+Inv-levels levels count N i₀ i = Climbs levels count N i
 
 abbrev μ-levels : tie.MeasureT-levels
 μ-levels levels count N i₀ i = N - i
 
 levels-holds : tie.Need-levels-holds Inv-loop μ-loop Inv-levels μ-levels
-levels-holds c = (search needs, search needs, taken-none (c .args .levels .now) _)
+levels-holds c = record { above = search needs; below = search needs; taken = taken-none (c .args .levels .now) _ }
 
 loop-holds : tie.Need-loop-holds Inv-loop μ-loop Inv-levels μ-levels
 loop-holds c = passed-none (c .before .before .args .levels .now) _ _ _ (omega arith)
@@ -32,18 +38,20 @@ loop-again c = passed-more (c .before .before .before .loop .inv) (omega arith) 
 levels-again : tie.Need-levels-again Inv-loop μ-loop Inv-levels μ-levels
 levels-again c =
     let at-loop = c .before .before .before in
-    let at-levels = at-loop .before .before in (
-      search needs,
-      search needs,
-      taken-more (at-levels .before .args .levels .now) _ _ (at-loop .loop .j) (at-levels .levels .inv .2) (omega arith) (c .if3 .taken),
-    )
+    let at-levels = at-loop .before .before in
+    let all = at-levels .levels .inv .taken in
+    record {
+      above = search needs;
+      below = search needs;
+      taken = taken-more (at-levels .before .args .levels .now) _ _ (at-loop .loop .j) all (omega arith) (c .if3 .taken);
+    }
 
 returns : tie.Need-returns Inv-loop μ-loop Inv-levels μ-levels
 returns c =
     record {
       from-one = omega arith;
       to-N = omega arith;
-      taken = rw (c .if1 .taken) at (c .before .levels .inv .2);
+      taken = rw (c .if1 .taken) at (c .before .levels .inv .taken);
       free = λ l. absurd (omega arith);
     }
 
@@ -53,7 +61,7 @@ returns-2 c =
     record {
       from-one = omega arith;
       to-N = omega arith;
-      taken = at-loop .before .before .levels .inv .2;
+      taken = at-loop .before .before .levels .inv .taken;
       free = λ l. rw (c .if2 .taken) at (at-loop .loop .inv .absent);
     }
 

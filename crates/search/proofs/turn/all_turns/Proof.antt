@@ -8,7 +8,6 @@ use lib.ListN.{length}
 use Rattle.ic3.specs.Search.{run}
 use Rattle.system.specs.System.{model, systemOf}
 use Rattle.call.specs.Promise.{stores}
-use Rattle.call.proofs.Call.{Lengths}
 use Rattle.search.specs.Lent.{configOf}
 use Rattle.search.proofs.Turns.{Running, running-go, running-stop, running-spent}
 use Rattle.search.proofs.turn.all_turns.Statement.{statement}
@@ -16,10 +15,9 @@ use Rattle.search.proofs.turn.all_turns.Tie as tie
 
 abbrev Inv-loop : tie.InvT-loop
 Inv-loop n start step bad states₀ levels₀ path₀ c₀ asked₀ allowance states levels path c asked =
-    Running (systemOf n start step bad) (length states₀) allowance
+    Running (systemOf n start step bad) allowance (stores states₀ levels₀ path₀)
     (run (allowance - asked₀) (model (systemOf n start step bad)) (length states₀) (configOf c₀ (stores states₀ levels₀ path₀)) asked₀)
     c asked (stores states levels path)
-    × Lengths (stores states₀ levels₀ path₀) (stores states levels path)
 
 abbrev μ-loop : tie.MeasureT-loop
 μ-loop n start step bad states₀ levels₀ path₀ c₀ asked₀ allowance states levels path c asked = allowance - asked
@@ -27,33 +25,36 @@ abbrev μ-loop : tie.MeasureT-loop
 loop-holds : tie.Need-loop-holds Inv-loop μ-loop
 loop-holds c =
     let w = c .before .before .before .before .before .before .pre in
-    (record { ready = w .ready; within = w .within; rest = refl }, record { states = refl; levels = refl; path = refl })
+    record {
+      ready = w .ready;
+      lengths = record { states = refl; levels = refl; path = refl };
+      within = w .within;
+      rest = refl;
+    }
 
 one-turn-requires : tie.Need-one-turn-requires Inv-loop μ-loop
 one-turn-requires c κs =
-    let l = c .before .before .before .before .loop in
-    rw (l .inv .1 .states) (l .inv .0 .ready)
+    let w = c .before .before .before .before .loop .inv in
+    rw (w .lengths .states) (w .ready)
 
 loop-again : tie.Need-loop-again Inv-loop μ-loop
 loop-again c =
     let turn = c .before .before .before .before .before .before .before .before .before in
-    let here = turn .before .before .before .before .before .loop in (
-      running-go (here .inv .0) (record { states = search needs; levels = search needs; path = search needs })
-          (turn .before .before .before .before .loop-test .taken)
-          (rw (c .before .t .given .1) at (rw (here .inv .1 .states) at (turn .one-turn .ensures))),
-      record { states = search needs; levels = search needs; path = search needs },
-    )
+    let w = turn .before .before .before .before .before .loop .inv in
+    running-go w (record { states = search needs; levels = search needs; path = search needs })
+    (turn .before .before .before .before .loop-test .taken)
+    (rw (c .before .t .given .1) at (rw (w .lengths .states) at (turn .one-turn .ensures)))
 
 returns : tie.Need-returns Inv-loop μ-loop
 returns c =
     let turn = c .before .before .before .before .before .before .before .before .before in
-    let here = turn .before .before .before .before .before .loop in
-    running-stop (here .inv .0) (record { states = search needs; levels = search needs; path = search needs })
+    let w = turn .before .before .before .before .before .loop .inv in
+    running-stop w (record { states = search needs; levels = search needs; path = search needs })
     (turn .before .before .before .before .loop-test .taken)
-    (rw (c .before .t2 .given .1) at (rw (here .inv .1 .states) at (turn .one-turn .ensures)))
+    (rw (c .before .t2 .given .1) at (rw (w .lengths .states) at (turn .one-turn .ensures)))
 
 returns-2 : tie.Need-returns-2 Inv-loop μ-loop
-returns-2 c = running-spent (c .before .loop .inv .0) (omega arith)
+returns-2 c = running-spent (c .before .loop .inv) (omega arith)
 
 pub all-turns-spec : {M : Type 1} → statement M
 all-turns-spec =
