@@ -42,12 +42,12 @@ module _ (room : ℕ) where
         })
 
   -- ---- steps 1 to 3
-  found-shaped : (N : ℕ) (st : List Entry) (s : ℕ) → Shape room N st look → Shaped room (found N st s)
+  found-shaped : (N : ℕ) (st : List Entry) (s : ℕ) → Shape room (at N st look) → Shaped room (found N st s)
   unfolding found
   found-shaped zero st s w = omega arith
   found-shaped (suc k) st s w = record { tidy = w .tidy; stored = w .stored; low = w .low; placed = omega arith }
 
-  deeper-shaped : (N : ℕ) (st : List Entry) (k s : ℕ) (ds : List ℕ) (t : ℕ) → Shape room N st (settle k s ds) → Shaped room (deeper N st k s ds t)
+  deeper-shaped : (N : ℕ) (st : List Entry) (k s : ℕ) (ds : List ℕ) (t : ℕ) → Shape room (at N st (settle k s ds)) → Shaped room (deeper N st k s ds t)
   unfolding deeper
   deeper-shaped N st zero s ds t w = omega (arith, w .low, w .placed)
   deeper-shaped N st (suc k) s ds t w =
@@ -63,7 +63,7 @@ module _ (room : ℕ) where
 
   -- ---- one question
   -- whatever the answer is
-  react-keeps-shape : (N : ℕ) (st : List Entry) (ph : Phase) (o : Option ℕ) → Shape room N st ph → Shaped room (react room N st ph o)
+  react-keeps-shape : (N : ℕ) (st : List Entry) (ph : Phase) (o : Option ℕ) → Shape room (at N st ph) → Shaped room (react room N st ph o)
   unfolding react
   react-keeps-shape N st look (some s) w = found-shaped N st s w
   react-keeps-shape N st look none w =
@@ -80,24 +80,22 @@ module _ (room : ℕ) where
       let same : length (put st s (suc i)) ≡ length st = put-old st s (suc i) (omega (arith, p .above, p .here)) in
       tested-shaped N (put st s (suc i)) (put-tidy st s (suc i) (omega arith) (w .tidy)) (rw same (w .stored)) (w .low) i todo (p .above) (p .below)
 
-  pub next-keeps-shape : (M : Model) (c : Config) → Shape room (c .N) (c .store) (c .phase) → Shaped room (next M room c)
+  pub next-keeps-shape : (M : Model) (c : Config) → Shape room c → Shaped room (next M room c)
   unfolding next
   next-keeps-shape M c w =
       react-keeps-shape (c .N) (c .store) (c .phase) (least (M .size) (wanted M (c .N) (c .store) (c .phase))) w
 
   -- ---- a run
-  pub opening-shape : Shape room 0 [] look
+  pub opening-shape : Shape room (at 0 [] look)
   opening-shape = record { tidy = tt; stored = omega arith; low = omega arith; placed = tt }
 
   -- a run from any configuration that has the shape, in any model
-  pub run-fits : (M : Model) (left : ℕ) (c : Config) (q : ℕ) → Shape room (c .N) (c .store) (c .phase)
-      → FitsEnding room (run left M room c q .verdict)
+  pub run-fits : (M : Model) (left : ℕ) (c : Config) (q : ℕ) → Shape room c → FitsEnding room (run left M room c q .verdict)
   run-fits M left c q w =
-      run-keeps M room (left + q) (λ d p. Shape room (d .N) (d .store) (d .phase)) (λ v p. FitsEnding room v)
+      run-keeps M room (left + q) (λ d p. Shape room d) (λ v p. FitsEnding room v)
       (λ d p x. turned (suc p) (next M room d) (next-keeps-shape M d x)) (λ d x. tt) left c q refl w
     where
-      turned : (p : ℕ) (m : Move) → Shaped room m
-          → Turned M room (left + q) (λ d p. Shape room (d .N) (d .store) (d .phase)) (λ v p. FitsEnding room v) p m
+      turned : (p : ℕ) (m : Move) → Shaped room m → Turned M room (left + q) (λ d p. Shape room d) (λ v p. FitsEnding room v) p m
       turned p (go d) x = x
       turned p (stop v) x = x
 

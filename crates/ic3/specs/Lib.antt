@@ -1,7 +1,7 @@
--- The root of the definitions, in the order in which to read them. No definition leans on the last two.
+-- The root of the definitions, in the order in which to read them. No definition leans on the last three.
 pub mod Model
 pub mod Search
-pub mod Shape
 pub mod Demands
+pub mod Shape
 pub mod Canonical
 pub mod Exact

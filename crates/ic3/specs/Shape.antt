@@ -4,7 +4,7 @@ use Prim.Native.Nat.{ℕ, suc, _+_, _≤_, _<_}
 use mathlib.Core.List.{List, [], _∷_}
 use mathlib.Core.Path.{_≡_}
 use lib.ListN.{length}
-use Rattle.ic3.specs.Search.{Entry, levelOf, Phase, look, settle, raise, Verdict, safe, unsafe, noRoom, spent, Move, go, stop}
+use Rattle.ic3.specs.Search.{Entry, levelOf, Phase, look, settle, raise, Config, Verdict, safe, unsafe, noRoom, spent, Move, go, stop}
 
 -- each level is at least 1, and no state is stored twice
 abbrev pub Tidy : List Entry → Type 0
@@ -30,11 +30,12 @@ highest room look = suc room
 highest room (settle k s ds) = suc room
 highest room (raise i s todo) = suc (suc room)
 
-pub record Shape (room N : ℕ) (st : List Entry) (phase : Phase) : Type 0 where
-  pub tidy : Tidy st
-  pub stored : length st ≤ room
-  pub low : N ≤ highest room phase
-  pub placed : Placed N st phase
+-- THE SHAPE: a tidy store within the room, N near the room, and a phase that fits them
+pub record Shape (room : ℕ) (c : Config) : Type 0 where
+  pub tidy : Tidy (c .store)
+  pub stored : length (c .store) ≤ room
+  pub low : c .N ≤ highest room (c .phase)
+  pub placed : Placed (c .N) (c .store) (c .phase)
 
 -- evidence and path fit the lent stores
 abbrev pub FitsEnding : ℕ → Verdict → Type 0
@@ -45,5 +46,5 @@ FitsEnding room spent = Unit {0}
 
 -- where an answer leads
 abbrev pub Shaped : ℕ → Move → Type 0
-Shaped room (go c) = Shape room (c .N) (c .store) (c .phase)
+Shaped room (go c) = Shape room c
 Shaped room (stop v) = FitsEnding room v

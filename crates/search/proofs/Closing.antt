@@ -29,7 +29,7 @@ part-drop (suc left) i xs h = rw (drop-cons xs i 0 (omega arith)) (ap (λ l. get
 pub part-take : (k : ℕ) (xs : List ℕ) → k ≤ length xs → part k 0 xs ≡ take k xs
 part-take k xs h = part-drop k 0 xs (omega arith)
 
--- ---- the four ends
+-- ---- the four verdicts
 pub stores-same : {ss ss' ls ls' path path' : List ℕ} → ss ≡ ss' → ls ≡ ls' → path ≡ path' → stores ss ls path ≡ stores ss' ls' path'
 stores-same a l p = rw (a, l, p)
 

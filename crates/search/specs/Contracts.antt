@@ -1,5 +1,4 @@
--- What the private functions require and ensure, with a name for each fact. The public promise mentions none of it: nothing here has to be
--- believed.
+-- What the private functions require and ensure, with a name for each fact. Nothing here has to be believed: no public promise mentions it.
 use Prim.Native.Nat.{ℕ, _+_, _-_, _≤_, _<_}
 use mathlib.Core.Bool.{true, false}
 use mathlib.Core.List.{List}
@@ -12,7 +11,7 @@ use Rattle.ic3.specs.Shape.{Tidy, Shape}
 use Rattle.call.specs.Call.{Stores, ended}
 use Rattle.call.specs.Promise.{countOf, resultOf}
 use Rattle.call.specs.declared.Outcome.{Outcome}
-use Rattle.search.specs.Lent.{window, storeOf, phaseOf, verdictOf, moveOf}
+use Rattle.search.specs.Lent.{window, storeOf, configOf, verdictOf, moveOf}
 use Rattle.search.specs.declared.store.Kept.{Kept}
 use Rattle.search.specs.declared.store.Kept.the-variants.{At, Full}
 use Rattle.search.specs.declared.react.Phase.{Phase}
@@ -114,6 +113,7 @@ roundFrom N count i j ss ls =
       | false ↦ judge N (N - 1) 1 (storeOf count ss ls)
     ]
 
+-- step 4 can begin at entry j of level i
 pub record Rounds (ls : List ℕ) (N count i j : ℕ) : Type 0 where
   pub walks : Walks ls count j
   pub above : 1 ≤ i
@@ -137,7 +137,7 @@ pub record Lends (n room : ℕ) (s : Stores) : Type 0 where
 -- where a search can stand: at any configuration that has the shape, in stores that hold it
 pub record Ready (n room : ℕ) (c : Config) (s : Stores) : Type 0 where
   pub lends : Lends n room s
-  pub shape : Shape room (c .N) (storeOf (c .count) (s .states) (s .levels)) (phaseOf (c .phase) (c .N) (c .count) s)
+  pub shape : Shape room (configOf c s)
   pub indexed : Indexed (c .phase) (c .count)
 
 -- step 4 can test entry j at level i
@@ -148,12 +148,12 @@ pub record Raises (n N count i j : ℕ) (ss ls : List ℕ) : Type 0 where
   pub below : i < N
 
 -- ---- a run
--- it can go on, with `asked` of the questions allowed asked
+-- it can begin at c, which `asked` questions led to
 pub record Begins (n room : ℕ) (c : Config) (asked allowance : ℕ) (s : Stores) : Type 0 where
   pub ready : Ready n room c s
   pub within : asked ≤ allowance
 
--- it ended as the definition's
+-- it ended as the definition's: with its verdict, read off the stores, and its number of questions
 pub record Ends (n room : ℕ) (ending : ic3.Ending) (v : Verdict) (asked : ℕ) (s : Stores) : Type 0 where
   pub verdict : verdictOf v s ≡ ending .verdict
   pub questions : asked ≡ ending .questions
@@ -161,11 +161,12 @@ pub record Ends (n room : ℕ) (ending : ic3.Ending) (v : Verdict) (asked : ℕ)
   pub lends : Lends n room s
 
 -- ---- closing
--- `front` states and `len` states of the path can stay
+-- `front` of the states and `len` of the path can stay
 pub record Finishes (front len : ℕ) (s : Stores) : Type 0 where
   pub states : front ≤ length (s .states)
   pub path : len ≤ length (s .path)
 
+-- a run that ended with v can be closed
 pub record Closing (v : Verdict) (s : Stores) : Type 0 where
   pub same : length (s .levels) ≡ length (s .states)
   pub counted : Counted v s

@@ -1,4 +1,4 @@
--- The definition's configurations and moves, read out of the code's records and the lent stores: what there is to believe of a run while it goes
+-- The definition's configurations and moves, read out of the code's records and the lent stores: what is to be believed of a run while it goes
 -- on. The store is the first `count` entries of the state store and the level store. The open duties stand in the path store, that of level k at
 -- index k.
 use Prim.Native.Nat.{ℕ, zero, suc, _-_}
