@@ -14,12 +14,6 @@ unfolding window
 window-length zero i ss ls = refl
 window-length (suc left) i ss ls = ap suc (window-length left (suc i) ss ls)
 
--- a part has as many numbers as it counts
-pub part-length : (left i : ℕ) (xs : List ℕ) → length (part left i xs) ≡ left
-unfolding part
-part-length zero i xs = refl
-part-length (suc left) i xs = ap suc (part-length left (suc i) xs)
-
 -- a level stored before the window leaves it as it is
 pub window-apart : (left i m : ℕ) (ss ls : List ℕ) (k : ℕ) → m < i → window left i ss (set ls m k) ≡ window left i ss ls
 unfolding window
