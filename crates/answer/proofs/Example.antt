@@ -2,8 +2,8 @@
 use mathlib.Core.Path.{_≡_, refl}
 use Rattle.masks.specs.Bit.{bit, somewhere}
 use Rattle.ic3.specs.Model.{least}
-use Rattle.ic3.specs.Search.{levelOf, put, states, R, wanted, judge, round, tested, found, deeper, settled, fits, kept, react, next, run, searched}
-use Rattle.system.specs.System.{literalTrue, clauseTrue, listTrue, word, model, wrongSize, wrongCount, wrongBit, refusalOf}
+use Rattle.ic3.specs.Search.{levelOf, put, states, R, wanted, judge, round, tested, found, deeper, settled, fits, kept, react, next, searchFrom, searched}
+use Rattle.system.specs.System.{literalTrue, clauseTrue, listTrue, pair, model, wrongSize, wrongCount, wrongBit, refusalOf}
 use Rattle.call.specs.Call.{wrongStores, refused, ended, called}
 use Rattle.text.specs.Lines.{before, lines}
 use Rattle.house.specs.Text.{digit, ahead, bytes, sum, number}
@@ -13,8 +13,8 @@ use Rattle.answer.specs.Answer.{stateLines, verdictLines, callLines, sca
 use Rattle.answer.specs.Example.{ringFile, ringAnswer}
 
 pub ring-answered : answered ringFile ≡ ringAnswer
-unfolding bit somewhere least levelOf put states R wanted judge round tested found deeper settled fits kept react next run searched
-    literalTrue clauseTrue listTrue word model wrongSize wrongCount wrongBit refusalOf wrongStores refused ended called
+unfolding bit somewhere least levelOf put states R wanted judge round tested found deeper settled fits kept react next searchFrom searched
+    literalTrue clauseTrue listTrue pair model wrongSize wrongCount wrongBit refusalOf wrongStores refused ended called
     before lines digit ahead bytes sum number inPlace width lengthFor field clauseOf hasRoom roomFor withClause entered judged lineTaken readLines
     said letter digits sumByte lineOf one two four stateLines verdictLines callLines scanStores saidLines answered
 ring-answered = refl

@@ -2,7 +2,7 @@
 use Prim.Native.Nat.{ℕ, suc, _+_, _*_}
 use mathlib.Core.List.{List, [], _∷_, _++_}
 use lib.ListN.{length, replicate}
-use Rattle.base.specs.Limits.{mostClauseLines, scanRoom, scanAllowance}
+use Rattle.base.specs.Refusals.{mostClauseLines, scanRoom, scanAllowance}
 use Rattle.system.specs.System.{System, systemOf}
 use Rattle.call.specs.Call.{Stores, says-safe, says-unsafe, gives-up, refuses, Result, called}
 use Rattle.call.specs.Promise.{stores}

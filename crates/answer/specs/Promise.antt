@@ -4,8 +4,8 @@ use mathlib.Core.Bool.{true}
 use mathlib.Core.List.{List, [], _∷_}
 use mathlib.Core.Path.{_≡_}
 use lib.ListN.{take}
+use Rattle.base.specs.Refusals.{scanAllowance}
 use Rattle.text.specs.Writing.{Writes}
-use Rattle.base.specs.Limits.{scanAllowance}
 use Rattle.ic3.specs.Model.{Model}
 use Rattle.ic3.specs.Demands.{Safe, Unsafe, listed}
 use Rattle.system.specs.System.{model}

@@ -1,4 +1,4 @@
--- Refusals by number, tested in a given order. 0 is no refusal.
+-- Refusals by number, tested in a given order, and the limits. 0 is no refusal.
 use Prim.Native.Nat.{ℕ, zero, suc}
 use mathlib.Core.Bool.{Bool, true, false}
 
@@ -13,3 +13,22 @@ number if false = 0
 abbrev pub _else_ : ℕ → ℕ → ℕ
 zero else next = next
 suc first else next = suc first
+
+-- at most so many clauses in a list, states in the state store, clause lines in a file, digits in a line; and room and allowance of `scan`
+abbrev pub mostClauses : ℕ
+mostClauses = 4096
+
+abbrev pub mostStored : ℕ
+mostStored = 65536
+
+abbrev pub mostClauseLines : ℕ
+mostClauseLines = 1024
+
+abbrev pub mostDigits : ℕ
+mostDigits = 36
+
+abbrev pub scanRoom : ℕ
+scanRoom = 1024
+
+abbrev pub scanAllowance : ℕ
+scanAllowance = 1000000

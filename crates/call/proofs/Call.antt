@@ -8,13 +8,14 @@ use native.Mathlib.Omega.{arith}
 use borrow.Author.Tests.{eqb-true, ltb-false}
 use lib.Dec.{eqb, ltb}
 use lib.ListN.{length}
+use Rattle.ic3.specs.Theorems.{Demand-2, Answered}
 use Rattle.stores.proofs.Over.{over-length}
 use Rattle.base.proofs.Tests.{clash}
 use Rattle.base.specs.Refusals.{_if_}
 use Rattle.base.proofs.Refusals.{else-none, if-none}
 use Rattle.ic3.specs.Model.{Model}
 use Rattle.ic3.specs.Search.{Verdict, safe, unsafe, noRoom, spent, searched}
-use Rattle.ic3.specs.Demands.{Demand-2, Doomed, Number, Answered}
+use Rattle.ic3.specs.Demands.{Doomed, Number}
 use Rattle.ic3.proofs.Sound.{demand-2}
 use Rattle.ic3.proofs.Bound.{demand-3}
 use Rattle.ic3.specs.Shape.{FitsEnding}

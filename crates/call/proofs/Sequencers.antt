@@ -10,8 +10,8 @@ use Rattle.base.proofs.Tests.{clash}
 use Rattle.masks.specs.Bit.{bit, somewhere}
 use Rattle.masks.proofs.Somewhere.{somewhere-false}
 use Rattle.ic3.specs.Model.{least}
-use Rattle.ic3.specs.Search.{levelOf, put, states, R, wanted, Verdict, safe, unsafe, noRoom, spent, judge, round, tested, found, deeper, settled, fits, kept, react, next, run, searched}
-use Rattle.system.specs.System.{System, literalTrue, clauseTrue, listTrue, word, model, wrongSize, wrongCount, wrongBit, refusalOf}
+use Rattle.ic3.specs.Search.{levelOf, put, states, R, wanted, Verdict, safe, unsafe, noRoom, spent, judge, round, tested, found, deeper, settled, fits, kept, react, next, searchFrom, searched}
+use Rattle.system.specs.System.{System, literalTrue, clauseTrue, listTrue, pair, model, wrongSize, wrongCount, wrongBit, refusalOf}
 use Rattle.call.specs.Call.{Stores, Result, ended}
 use Rattle.call.specs.Sequencers.{Step, given, ring, ringGiven, late, lateGiven, chain, chainGiven, Given, Sequencer, sequencer, sequencers, Ends, Worked}
 use Rattle.call.proofs.Call.{refused-stores, called-searches}
@@ -44,15 +44,15 @@ given-by y steps e f g =
     }
 
 pub ring-given : Given ring ringGiven
-unfolding differ bit somewhere literalTrue clauseTrue listTrue word model
+unfolding differ bit somewhere literalTrue clauseTrue listTrue pair model
 ring-given = given-by ring ringGiven refl refl refl
 
 pub late-given : Given late lateGiven
-unfolding differ bit somewhere literalTrue clauseTrue listTrue word model
+unfolding differ bit somewhere literalTrue clauseTrue listTrue pair model
 late-given = given-by late lateGiven refl refl refl
 
 pub chain-given : Given chain chainGiven
-unfolding differ bit somewhere literalTrue clauseTrue listTrue word model
+unfolding differ bit somewhere literalTrue clauseTrue listTrue pair model
 chain-given = given-by chain chainGiven refl refl refl
 
 -- ---- they end as document 01 says
@@ -68,7 +68,7 @@ computed x = let r = searching x in sequencer (x .system) (x .room) (x .allowanc
 
 -- THE COMPUTATION: the list is what comes out of it, and none of its systems is refused
 table : map computed sequencers ≡ sequencers
-unfolding bit somewhere literalTrue clauseTrue listTrue word model least levelOf put states R wanted judge round tested found deeper settled fits kept react next run searched ended
+unfolding bit somewhere literalTrue clauseTrue listTrue pair model least levelOf put states R wanted judge round tested found deeper settled fits kept react next searchFrom searched ended
 table = refl
 
 accepted : map (λ x. refusalOf (x .system)) sequencers ≡ map (λ x. 0) sequencers

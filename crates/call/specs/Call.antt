@@ -4,8 +4,7 @@ use mathlib.Core.Bool.{Bool, not, _||_}
 use mathlib.Core.List.{List, []}
 use lib.Dec.{eqb, ltb}
 use lib.ListN.{length}
-use Rattle.base.specs.Limits.{mostStored}
-use Rattle.base.specs.Refusals.{_if_, _else_}
+use Rattle.base.specs.Refusals.{_if_, _else_, mostStored}
 use Rattle.stores.specs.Over.{over}
 use Rattle.ic3.specs.Search.{Verdict, safe, unsafe, noRoom, spent, searched}
 use Rattle.system.specs.System.{System, model, refusalOf}

@@ -6,7 +6,7 @@ use mathlib.Core.List.{List}
 use mathlib.Core.Option.{none, some}
 use mathlib.Core.Path.{_≡_, sym, _∙_}
 use lib.ListN.{length, getD}
-use Rattle.system.specs.System.{System, listTrue, word, model}
+use Rattle.system.specs.System.{System, listTrue, pair, model}
 use Rattle.evidence.specs.Check.{each, refused, outside, closedFrom, leadsOn, excludedStates, pathOf}
 use Rattle.evidence.specs.Promise.{ExcludedChecked, PathChecked}
 use Rattle.evidence.specs.declared.Checked.{Checked}
@@ -30,7 +30,7 @@ module _ (y : System) (xs : List ℕ) where
 
       -- the steps into the list decide
       pub excluded-closed : (r : Checked) → outside (2 ^ y .n) xs (listTrue (y .bad)) ≡ none
-          → r ≡ closedFrom (2 ^ y .n) (λ s t. listTrue (y .step) (word s t)) xs xs 1 → ExcludedChecked y xs r
+          → r ≡ closedFrom (2 ^ y .n) (λ s t. listTrue (y .step) (pair s t)) xs xs 1 → ExcludedChecked y xs r
       unfolding model
       excluded-closed r f g = excluded-promised y xs r (g ∙ sym (checked-judges y xs excludedStates z ∙ then-closed (model y) xs e f))
 
@@ -46,10 +46,10 @@ module _ (y : System) (xs : List ℕ) where
 
       module _ (e : listTrue (y .start) (getD xs 0 0) ≡ true) where
         -- a step is none, or the last state is not bad
-        pub path-astray : leadsOn (λ s t. listTrue (y .step) (word s t)) (listTrue (y .bad)) xs ≡ false → PathChecked y xs (No 0)
+        pub path-astray : leadsOn (λ s t. listTrue (y .step) (pair s t)) (listTrue (y .bad)) xs ≡ false → PathChecked y xs (No 0)
         unfolding model
         path-astray f = path-promised y xs _ (sym (checked-judges y xs pathOf z ∙ path-nowhere (model y) xs h e f))
 
-        pub path-to-bad : leadsOn (λ s t. listTrue (y .step) (word s t)) (listTrue (y .bad)) xs ≡ true → PathChecked y xs (Yes 0)
+        pub path-to-bad : leadsOn (λ s t. listTrue (y .step) (pair s t)) (listTrue (y .bad)) xs ≡ true → PathChecked y xs (Yes 0)
         unfolding model
         path-to-bad f = path-promised y xs _ (sym (checked-judges y xs pathOf z ∙ path-leads (model y) xs h e f))

@@ -12,8 +12,9 @@ use borrow.Author.Tests.{not-true, not-false, eqb-true, eq-eqb}
 use lib.Dec.{eqb}
 use lib.ListN.{length, getD, drop, drop-of-length-le}
 use lib.Seq.{drop-cons}
+use Rattle.ic3.specs.Answers.{Answers}
 use Rattle.base.proofs.Tests.{test, clash, both, first-false}
-use Rattle.ic3.specs.Model.{Model, Answers}
+use Rattle.ic3.specs.Model.{Model}
 use Rattle.ic3.specs.Demands.{listed, Excludes}
 use Rattle.ic3.proofs.Least.{least-answers}
 use Rattle.evidence.specs.Check.{each, outside, closedFrom, excludedStates, questionsOf}

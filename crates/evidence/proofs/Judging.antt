@@ -68,10 +68,10 @@ module _ (y : System) (xs : List ℕ) where
   unfolding model
   accepts e w = refused-states true e (listed-each (λ x. ltb x (2 ^ y .n)) xs (λ s h. lt-ltb s (2 ^ y .n) (w s h)))
 
-  -- what the search hands back with this word is not refused, and R holds
+  -- what the search hands back with this verdict is not refused, and R holds
   abbrev Own : Said → Type 0 → Type 0
-  Own word R =
-      (lent : Stores) (allowance : ℕ) → called y lent allowance .said ≡ word → called y lent allowance .evidence ≡ xs → (refused y xs ≡ 0) × R
+  Own verdict R =
+      (lent : Stores) (allowance : ℕ) → called y lent allowance .said ≡ verdict → called y lent allowance .evidence ≡ xs → (refused y xs ≡ 0) × R
 
   -- ---- the definition, case by case
   module _ (judge : Model → List ℕ → Checked) where
@@ -88,8 +88,8 @@ module _ (y : System) (xs : List ℕ) where
     number-checked zero e f = absurd (f refl)
     number-checked (suc r) e f = sym (checked-refused r (sym e))
 
-    module _ (R : Type 0) (word : Said) (decides : Within → Decides (judge (model y) xs) R) (own : Own word R) where
-      decided : refused y xs ≡ 0 → (c : Checked) → Decides c R → Judged y xs R word c
+    module _ (R : Type 0) (verdict : Said) (decides : Within → Decides (judge (model y) xs) R) (own : Own verdict R) where
+      decided : refused y xs ≡ 0 → (c : Checked) → Decides c R → Judged y xs R verdict c
       decided z (Yes q) d = record { number = sym z; accepts = (λ t. (z, d), λ t. tt); rejects = (λ t. absurd t, λ t. t .1 d); own = λ lent allowance e f. tt }
       decided z (No q) d =
           record {
@@ -101,10 +101,10 @@ module _ (y : System) (xs : List ℕ) where
       decided z (Refused n) d = absurd d
 
       -- yes and no exactly as the evidence is right or not
-      pub judged : Judged y xs R word (checked judge y xs)
+      pub judged : Judged y xs R verdict (checked judge y xs)
       judged = pick (refused y xs) refl
         where
-          pick : (r : ℕ) → refused y xs ≡ r → Judged y xs R word (checked judge y xs)
+          pick : (r : ℕ) → refused y xs ≡ r → Judged y xs R verdict (checked judge y xs)
           pick zero e = rw (checked-judges e) (decided e (judge (model y) xs) (decides (within e)))
           pick (suc r) e =
               rw (checked-refused r e)
@@ -124,8 +124,8 @@ module _ (y : System) (xs : List ℕ) where
       pick (suc r) e = rw (checked-refused judge r e) (omega arith)
 
   -- ---- what the search hands back
-  own : (word : Said) (R : Type 0) → Speaks word → (Right (model y) word xs → Within × R) → Own word R
-  own word R says part lent allowance e f =
+  own : (verdict : Said) (R : Type 0) → Speaks verdict → (Right (model y) verdict xs → Within × R) → Own verdict R
+  own verdict R says part lent allowance e f =
       let w = part (rw (e, f) at (called-right y lent allowance)) in
       (accepts (called-accepts y lent allowance (rw e says)) (w .0), w .1)
 

@@ -6,7 +6,7 @@ use mathlib.Core.Option.{Option, none, some}
 use lib.Dec.{ltb}
 use Rattle.base.specs.Refusals.{_if_, _else_}
 use Rattle.ic3.specs.Model.{Model, least}
-use Rattle.ic3.specs.Demands.{listed}
+use Rattle.ic3.specs.Demands.{covers}
 use Rattle.system.specs.System.{System, model, refusalOf}
 use Rattle.evidence.specs.declared.Checked.{Checked}
 use Rattle.evidence.specs.declared.Checked.the-variants.{Yes, No, Refused}
@@ -33,7 +33,7 @@ refused y xs = refusalOf y else 7 if not (each (λ x. ltb x (2 ^ y .n)) xs)
 
 -- the question of the check: the least state below `size` outside the list that passes a test
 unfoldable pub outside : ℕ → List ℕ → (ℕ → Bool) → Option ℕ
-outside size xs p = least size (λ s. not (listed xs s) && p s)
+outside size xs p = least size (λ s. not (covers xs s) && p s)
 
 -- For each t of ts in turn, whether a state outside the list xs steps to it; `asked` questions led here.
 unfoldable pub closedFrom : ℕ → (ℕ → ℕ → Bool) → List ℕ → List ℕ → ℕ → Checked

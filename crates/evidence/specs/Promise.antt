@@ -7,7 +7,7 @@ use mathlib.Core.Logic.{_↔_}
 use mathlib.Core.Path.{_≡_}
 use lib.ListN.{length}
 use Rattle.ic3.specs.Model.{Model}
-use Rattle.ic3.specs.Demands.{Reach, IsPath, listed, Excludes}
+use Rattle.ic3.specs.Demands.{Reach, IsPath, covers, Excludes}
 use Rattle.system.specs.System.{System, model}
 use Rattle.call.specs.Call.{Stores, Said, says-safe, says-unsafe, called}
 use Rattle.evidence.specs.Check.{numberOf, questionsOf, refused, excludedStates, pathOf, checked}
@@ -24,17 +24,17 @@ Says-no (Yes questions) = ⊥
 Says-no (No questions) = Unit {0}
 Says-no (Refused number) = ⊥
 
--- Yes exactly if the evidence is right, no exactly if it is not; a refusal says neither. What the search hands back with this word is accepted.
-pub record Judged (y : System) (xs : List ℕ) (Right : Type 0) (word : Said) (r : Checked) : Type 0 where
+-- Yes exactly if the evidence is right, no exactly if it is not; a refusal says neither. What the search hands back with this verdict is accepted.
+pub record Judged (y : System) (xs : List ℕ) (Right : Type 0) (verdict : Said) (r : Checked) : Type 0 where
   pub number : numberOf r ≡ refused y xs
   pub accepts : Says-yes r ↔ ((refused y xs ≡ 0) × Right)
   pub rejects : Says-no r ↔ ((refused y xs ≡ 0) × (Right → ⊥))
-  pub own : (lent : Stores) (allowance : ℕ) → called y lent allowance .said ≡ word → called y lent allowance .evidence ≡ xs → Says-yes r
+  pub own : (lent : Stores) (allowance : ℕ) → called y lent allowance .said ≡ verdict → called y lent allowance .evidence ≡ xs → Says-yes r
 
 -- of excluded states
 pub record ExcludedChecked (y : System) (xs : List ℕ) (r : Checked) : Type 0 where
   pub equation : r ≡ checked excludedStates y xs
-  pub judged : Judged y xs (Excludes (model y) (listed xs)) says-safe r
+  pub judged : Judged y xs (Excludes (model y) (covers xs)) says-safe r
   pub never : Says-yes r → (k s : ℕ) → Reach (model y) k s → model y .bad s ≡ false
   pub few : questionsOf r ≤ suc (length xs)
 

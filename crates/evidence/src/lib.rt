@@ -5,7 +5,7 @@ ghost use Prim.Native.Nat.{_^_, _≤_, _<_};
 ghost use lib.Dec.{ltb};
 ghost use lib.ListN.{length};
 ghost use Rattle.question.specs.Question.{answered};
-ghost use Rattle.system.specs.System.{listTrue, word, systemOf};
+ghost use Rattle.system.specs.System.{listTrue, pair, systemOf};
 ghost use Rattle.evidence.specs.Check.{each, refused, outside, closedFrom, leadsOn};
 ghost use Rattle.evidence.specs.Promise.{ExcludedChecked, PathChecked};
 
@@ -16,7 +16,7 @@ pub enum Checked {
     Refused(u32),
 }
 
-// The low half of a word is the state, the high half the next one.
+// The low half of a pair is the state, the high half the next one.
 const HALF: u64 = 1 << 32;
 
 // Whether each listed state is below 2^n.
@@ -75,7 +75,7 @@ fn bad_outside(n: u32, bad: &[u64], states: &[u64]) -> question::Answer
 // The least state that is not listed and steps to t.
 fn step_outside(n: u32, step: &[u64], states: &[u64], t: u64) -> question::Answer
     requires { ⌜ n ≤ 32 ⌝ }
-    ensures { λ r. ⌜ answered r ≡ outside (2 ^ n) (now (states .entry)) (λ s. listTrue (now (step .entry)) (word s t)) ⌝ }
+    ensures { λ r. ⌜ answered r ≡ outside (2 ^ n) (now (states .entry)) (λ s. listTrue (now (step .entry)) (pair s t)) ⌝ }
 {
     let levels = [0u32; 1];
     question::step_in(n, &step[..0], step, states, &levels[..0], 1, t)
@@ -84,7 +84,7 @@ fn step_outside(n: u32, step: &[u64], states: &[u64], t: u64) -> question::Answe
 // Whether no state outside the list steps into it: a question for each listed state, until one has an answer. One question was asked before.
 fn closed(n: u32, step: &[u64], states: &[u64]) -> Checked
     requires { ⌜ n ≤ 32 ⌝ }
-    ensures { λ r. ⌜ r ≡ closedFrom (2 ^ n) (λ s t. listTrue (now (step .entry)) (word s t)) (now (states .entry)) (now (states .entry)) 1 ⌝ }
+    ensures { λ r. ⌜ r ≡ closedFrom (2 ^ n) (λ s t. listTrue (now (step .entry)) (pair s t)) (now (states .entry)) (now (states .entry)) 1 ⌝ }
 {
     let mut asked = 1;
     let mut j = 0;
@@ -120,7 +120,7 @@ pub fn check_excluded(n: u32, start: &[u64], step: &[u64], bad: &[u64], states: 
 // Whether each state steps to the next, and the last is bad.
 fn leads_on(step: &[u64], bad: &[u64], path: &[u64]) -> bool
     requires { ⌜ (0 < length (now path)) × (each (λ x. ltb x (2 ^ 32)) (now path) ≡ true) ⌝ }
-    ensures { λ r. ⌜ r ≡ leadsOn (λ s t. listTrue (now (step .entry)) (word s t)) (listTrue (now (bad .entry))) (now (path .entry)) ⌝ }
+    ensures { λ r. ⌜ r ≡ leadsOn (λ s t. listTrue (now (step .entry)) (pair s t)) (listTrue (now (bad .entry))) (now (path .entry)) ⌝ }
 {
     let mut j = 0;
     while j + 1 < path.len() {

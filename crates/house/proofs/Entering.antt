@@ -8,7 +8,7 @@ use native.Mathlib.Numerals.{add-one}
 use native.Mathlib.Omega.{arith}
 use borrow.Author.Tests.{ltb-true, eq-eqb, ne-eqb, le-ltb, lt-ltb}
 use lib.Dec.{ltb}
-use Rattle.stores.specs.Over.{Lies}
+use Rattle.stores.specs.Lies.{Lies}
 use Rattle.house.specs.File.{on, refuse, roomFor, withClause}
 use Rattle.house.specs.Promise.{Lists, lists, roomsOf}
 use Rattle.house.specs.Lent.{takenAs, PutAs, Lie, readingOf, oneMore, Same, Turns, Enters}

@@ -7,8 +7,9 @@ use native.Mathlib.Omega.{arith}
 use borrow.Author.Tests.{le-leb, lt-leb}
 use lib.ListN.{length, take, set, replicate, length-append, length-set}
 use lib.Seq.{length-take-le, append-snoc, set-at}
+use Rattle.stores.specs.Lies.{Lies}
 use Rattle.base.proofs.Tests.{clash}
-use Rattle.stores.specs.Over.{over, Lies}
+use Rattle.stores.specs.Over.{over}
 use Rattle.stores.proofs.Lying.{lies, lies-take}
 use Rattle.house.specs.File.{hasRoom}
 use Rattle.house.specs.Lent.{PutAs}

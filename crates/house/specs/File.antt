@@ -5,7 +5,7 @@ use mathlib.Core.List.{List, [], _∷_, _++_}
 use mathlib.Core.Option.{none, some}
 use lib.Dec.{eqb, ltb, leb}
 use lib.ListN.{length, getD, take, drop}
-use Rattle.base.specs.Limits.{mostClauseLines, mostDigits}
+use Rattle.base.specs.Refusals.{mostClauseLines, mostDigits}
 use Rattle.text.specs.Lines.{lines}
 use Rattle.house.specs.Text.{bytes, sum, number}
 

@@ -6,8 +6,8 @@ use mathlib.Core.Option.{some}
 use mathlib.Core.Path.{_≡_}
 use lib.Dec.{eqb, ltb, leb}
 use lib.ListN.{length, getD, take, drop}
-use Rattle.base.specs.Limits.{mostClauseLines}
-use Rattle.stores.specs.Over.{Lies}
+use Rattle.base.specs.Refusals.{mostClauseLines}
+use Rattle.stores.specs.Lies.{Lies}
 use Rattle.text.specs.Lines.{lines}
 use Rattle.house.specs.Text.{digit, bytes}
 use Rattle.house.specs.File.{Rooms, Reading, Taken, on, refuse, roomFor, withClause, lineTaken, Said, refused, readLines, said}

@@ -5,7 +5,7 @@ ghost use mathlib.Core.Bool.{true};
 ghost use mathlib.Core.List.{[]};
 ghost use Prim.Native.Nat.{_+_, _*_, _≤_, _<_};
 ghost use lib.ListN.{length, take, drop};
-ghost use Rattle.stores.specs.Over.{Lies};
+ghost use Rattle.stores.specs.Lies.{Lies};
 ghost use Rattle.text.specs.Lines.{lineLength, LineAt};
 ghost use Rattle.house.specs.Text.{digit, sum, number};
 ghost use Rattle.house.specs.File.{inPlace, width, lengthFor};

@@ -3,8 +3,9 @@
 use Prim.Native.Nat.{ℕ, _+_, _*_, _≤_}
 use native.Mathlib.Omega.{arith}
 use native.Mathlib.Nat.{mul-add, add-mul}
+use Rattle.ic3.specs.Theorems.{Bounded, Demand-3}
 use Rattle.ic3.specs.Model.{Model}
-use Rattle.ic3.specs.Demands.{Doomed, Number, Bounded, Demand-3}
+use Rattle.ic3.specs.Demands.{Doomed, Number}
 use Rattle.ic3.specs.Exact.{exact}
 use Rattle.ic3.proofs.Number.{number-unique, doomed-number}
 use Rattle.ic3.proofs.Exact.{exact-bound}

@@ -8,8 +8,9 @@ use mathlib.Core.Option.{Option, none, some}
 use mathlib.Core.Path.{_≡_, refl}
 use native.Mathlib.Omega.{arith}
 use lib.ListN.{length}
+use Rattle.ic3.specs.Answers.{Least, Answers}
 use Rattle.base.proofs.Tests.{clash, first-false}
-use Rattle.ic3.specs.Model.{Model, Least, Answers}
+use Rattle.ic3.specs.Model.{Model}
 use Rattle.ic3.specs.Search.{Entry, levelOf, put, R, Phase, look, settle, raise, wanted, Move, go, settled, tested, found, deeper, kept, react, searched}
 use Rattle.ic3.specs.Demands.{Reach, starts, steps, Leads, Unsafe}
 use Rattle.ic3.specs.Canonical.{Within, LeastFrom, Canonical, CanonicalPath}

@@ -5,9 +5,10 @@ use Prim.Native.Nat.{ℕ, suc, _≤_}
 use mathlib.Core.List.{List, []}
 use mathlib.Core.Option.{Option}
 use native.Mathlib.Omega.{arith}
-use Rattle.ic3.specs.Model.{Model, Answers}
+use Rattle.ic3.specs.Theorems.{Answered, Bounded}
+use Rattle.ic3.specs.Answers.{Answers}
+use Rattle.ic3.specs.Model.{Model}
 use Rattle.ic3.specs.Search.{Entry, Phase, look, wanted, Verdict, Move, go, stop, react, searched}
-use Rattle.ic3.specs.Demands.{Answered, Bounded}
 use Rattle.ic3.proofs.Sound.{Kept, Stands, Then, search-keeps}
 
 module _ (M : Model) (m most : ℕ) (C : ℕ → List Entry → Phase → ℕ → Type 0) where

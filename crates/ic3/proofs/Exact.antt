@@ -10,11 +10,12 @@ use native.Mathlib.Nat.{mul-le-mul}
 use borrow.Author.Tests.{eqb-true, eqb-false}
 use lib.Dec.{eqb, leb}
 use lib.ListN.{length}
+use Rattle.ic3.specs.Theorems.{Bounded}
 use Rattle.base.proofs.Tests.{test}
 use Rattle.ic3.specs.Model.{Model}
 use Rattle.ic3.specs.Search.{Entry, levelOf, put, states, Phase, look, settle, raise}
 use Rattle.ic3.specs.Shape.{Sits}
-use Rattle.ic3.specs.Demands.{listed, Doomed, Number, Bounded}
+use Rattle.ic3.specs.Demands.{listed, Doomed, Number}
 use Rattle.ic3.specs.Exact.{exact}
 use Rattle.ic3.proofs.Store.{put-tidy, stored-put, put-new, total, total-low, total-cap, listed-none, states-fall}
 use Rattle.ic3.proofs.Frames.{leads-no-start}

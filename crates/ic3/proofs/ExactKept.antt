@@ -10,8 +10,9 @@ use native.Mathlib.Omega.{arith}
 use borrow.Author.Tests.{eqb-true, eqb-false, le-leb}
 use lib.Dec.{eqb, leb}
 use lib.ListN.{length}
+use Rattle.ic3.specs.Answers.{Answers}
 use Rattle.base.proofs.Tests.{test}
-use Rattle.ic3.specs.Model.{Model, Answers}
+use Rattle.ic3.specs.Model.{Model}
 use Rattle.ic3.specs.Search.{Entry, levelOf, put, states, Phase, look, settle, raise, wanted, go, judge, round, settled, found, deeper, kept, react}
 use Rattle.ic3.specs.Shape.{Tidy}
 use Rattle.ic3.specs.Demands.{listed, Doomed, Number}

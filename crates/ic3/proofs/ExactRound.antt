@@ -9,8 +9,9 @@ use native.Mathlib.Omega.{arith}
 use borrow.Author.Tests.{eqb-true, eqb-false, eq-eqb, ne-eqb}
 use lib.Dec.{eqb, leb}
 use lib.ListN.{length}
+use Rattle.ic3.specs.Answers.{Least}
 use Rattle.base.proofs.Tests.{test, both}
-use Rattle.ic3.specs.Model.{Model, Least}
+use Rattle.ic3.specs.Model.{Model}
 use Rattle.ic3.specs.Search.{Entry, levelOf, put, states, R, raise, wanted, Move, tested}
 use Rattle.ic3.specs.Shape.{Tidy, Sits}
 use Rattle.ic3.specs.Demands.{listed}

@@ -7,8 +7,9 @@ use mathlib.Core.Path.{_≡_, refl, ap, _∙_}
 use native.Mathlib.Omega.{arith}
 use borrow.Author.Tests.{eqb-true, eqb-false, ltb-true, ltb-false}
 use lib.Dec.{eqb, ltb}
+use Rattle.ic3.specs.Answers.{Answers}
 use Rattle.base.proofs.Tests.{test, clash}
-use Rattle.ic3.specs.Model.{least, Answers}
+use Rattle.ic3.specs.Model.{least}
 
 pub least-answers : (k : ℕ) (p : ℕ → Bool) → Answers k p (least k p)
 unfolding least

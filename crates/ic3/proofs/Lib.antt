@@ -3,7 +3,7 @@ pub mod Least
 pub mod Store
 pub mod Frames
 pub mod Round
-pub mod Run
+pub mod From
 pub mod Shape
 pub mod Sound
 pub mod Number

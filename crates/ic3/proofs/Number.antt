@@ -10,8 +10,9 @@ use native.Mathlib.Omega.{arith}
 use borrow.Author.Tests.{leb-true, eqb-true, eqb-false, not-true, not-false}
 use lib.Dec.{eqb, leb}
 use lib.ListN.{length}
+use Rattle.ic3.specs.Answers.{Answers}
 use Rattle.base.proofs.Tests.{test, clash, both, first-false}
-use Rattle.ic3.specs.Model.{Model, least, Answers}
+use Rattle.ic3.specs.Model.{Model, least}
 use Rattle.ic3.specs.Search.{Entry, states}
 use Rattle.ic3.specs.Shape.{Tidy}
 use Rattle.ic3.specs.Demands.{Leads, listed, Doomed, Distinct, Number}

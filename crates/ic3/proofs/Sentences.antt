@@ -5,11 +5,12 @@ use mathlib.Core.List.{List, [], _∷_}
 use mathlib.Core.Path.{_≡_, refl}
 use native.Mathlib.Omega.{arith}
 use lib.ListN.{length}
+use Rattle.ic3.specs.Theorems.{Demand-2, Answered}
 use Rattle.base.proofs.Tests.{clash}
 use Rattle.ic3.specs.Model.{Model}
-use Rattle.ic3.specs.Search.{Entry, look, settle, Config, at, Verdict, safe, unsafe, noRoom, spent, Move, go, stop, next, Ending, run, searched}
+use Rattle.ic3.specs.Search.{Entry, look, settle, Config, at, Verdict, safe, unsafe, noRoom, spent, Move, go, stop, next, Ending, searchFrom, searched}
 use Rattle.ic3.specs.Shape.{Placed}
-use Rattle.ic3.specs.Demands.{Reach, starts, steps, IsPath, Demand-2, Doomed, Number, Answered}
+use Rattle.ic3.specs.Demands.{Reach, starts, steps, IsPath, Doomed, Number}
 use Rattle.ic3.proofs.Frames.{leads-state}
 use Rattle.ic3.proofs.Sound.{demand-2}
 use Rattle.ic3.proofs.Bound.{bound}
@@ -41,17 +42,17 @@ path-states N st s ds t w = omega (arith, w)
 
 -- Before each ask, if the allowance is used up, the call ends: no search asks more questions than it has leave for.
 module _ (M : Model) (room : ℕ) where
-  run-within : (left : ℕ) (c : Config) (q : ℕ) → run left M room c q .questions ≤ left + q
-  unfolding run
-  run-within zero c q = omega arith
-  run-within (suc left) c q = pick (next M room c) (λ d. run-within left d (suc q))
+  from-within : (left : ℕ) (c : Config) (q : ℕ) → searchFrom left M room c q .questions ≤ left + q
+  unfolding searchFrom
+  from-within zero c q = omega arith
+  from-within (suc left) c q = pick (next M room c) (λ d. from-within left d (suc q))
     where
-      pick : (m : Move) → ((d : Config) → run left M room d (suc q) .questions ≤ left + suc q)
-          → (elim m as (λ x. Ending) [ go d ↦ run left M room d (suc q) | stop v ↦ record { verdict = v; questions = suc q } ]) .questions
+      pick : (m : Move) → ((d : Config) → searchFrom left M room d (suc q) .questions ≤ left + suc q)
+          → (elim m as (λ x. Ending) [ go d ↦ searchFrom left M room d (suc q) | stop v ↦ record { verdict = v; questions = suc q } ]) .questions
           ≤ suc left + q
       pick (go d) r = omega (arith, r d)
       pick (stop v) r = omega arith
 
   pub searched-within : (allowance : ℕ) → searched M room allowance .questions ≤ allowance
   unfolding searched
-  searched-within allowance = omega (arith, run-within allowance (at 0 [] look) 0)
+  searched-within allowance = omega (arith, from-within allowance (at 0 [] look) 0)

@@ -10,11 +10,11 @@ use native.Mathlib.Omega.{arith}
 use lib.Dec.{leb}
 use lib.ListN.{length}
 use Rattle.ic3.specs.Model.{Model, least}
-use Rattle.ic3.specs.Search.{Entry, put, Phase, look, settle, raise, Config, at, wanted, Move, go, stop, settled, tested, found, deeper, kept, react, next, run, searched}
+use Rattle.ic3.specs.Search.{Entry, put, Phase, look, settle, raise, Config, at, wanted, Move, go, stop, settled, tested, found, deeper, kept, react, next, searchFrom, searched}
 use Rattle.ic3.specs.Shape.{Tidy, Shape, FitsEnding, Shaped}
 use Rattle.ic3.proofs.Store.{put-tidy, put-old, states-length}
 use Rattle.ic3.proofs.Round.{Lands, round-lands, tested-lands, kept-lands, level-head, taken-length}
-use Rattle.ic3.proofs.Run.{Turned, run-keeps}
+use Rattle.ic3.proofs.From.{Turned, from-keeps}
 
 module _ (room : ℕ) where
   -- ---- steps 4 and 5, with N no more than they can begin with
@@ -90,9 +90,9 @@ module _ (room : ℕ) where
   opening-shape = record { tidy = tt; stored = omega arith; low = omega arith; placed = tt }
 
   -- a run from any configuration that has the shape, in any model
-  pub run-fits : (M : Model) (left : ℕ) (c : Config) (q : ℕ) → Shape room c → FitsEnding room (run left M room c q .verdict)
-  run-fits M left c q w =
-      run-keeps M room (left + q) (λ d p. Shape room d) (λ v p. FitsEnding room v)
+  pub from-fits : (M : Model) (left : ℕ) (c : Config) (q : ℕ) → Shape room c → FitsEnding room (searchFrom left M room c q .verdict)
+  from-fits M left c q w =
+      from-keeps M room (left + q) (λ d p. Shape room d) (λ v p. FitsEnding room v)
       (λ d p x. turned (suc p) (next M room d) (next-keeps-shape M d x)) (λ d x. tt) left c q refl w
     where
       turned : (p : ℕ) (m : Move) → Shaped room m → Turned M room (left + q) (λ d p. Shape room d) (λ v p. FitsEnding room v) p m
@@ -102,4 +102,4 @@ module _ (room : ℕ) where
 -- the whole search
 pub ending-fits : (M : Model) (room allowance : ℕ) → FitsEnding room (searched M room allowance .verdict)
 unfolding searched
-ending-fits M room allowance = run-fits room M allowance (at 0 [] look) 0 (opening-shape room)
+ending-fits M room allowance = from-fits room M allowance (at 0 [] look) 0 (opening-shape room)

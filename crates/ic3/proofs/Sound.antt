@@ -9,16 +9,18 @@ use mathlib.Core.Path.{_≡_, sym, _∙_}
 use native.Mathlib.Omega.{arith}
 use borrow.Author.Tests.{leb-true, leb-false, lt-leb, eqb-true, eqb-false}
 use lib.Dec.{eqb, leb}
+use Rattle.ic3.specs.Theorems.{Demand-2}
+use Rattle.ic3.specs.Answers.{Least, Answers}
 use Rattle.base.proofs.Tests.{test, clash, both, first-false}
-use Rattle.ic3.specs.Model.{Model, least, Least, Answers}
+use Rattle.ic3.specs.Model.{Model, least}
 use Rattle.ic3.specs.Search.{Entry, levelOf, put, states, R, Phase, look, settle, raise, Config, at, wanted, Verdict, spent, Move, go, stop, settled, tested, found, deeper, react, next, searched}
 use Rattle.ic3.specs.Shape.{Tidy, Sits, Placed}
-use Rattle.ic3.specs.Demands.{Leads, listed, Safe, Demand-2, Doomed}
+use Rattle.ic3.specs.Demands.{Leads, listed, Safe, Doomed}
 use Rattle.ic3.proofs.Least.{least-answers}
 use Rattle.ic3.proofs.Store.{level-put, level-put-other, put-tidy, Stored, stored-put, states-listed}
 use Rattle.ic3.proofs.Frames.{Frames, leads-state, path-hit, inside-level, frames-none, hit-late, leads-no-start, frames-grown, frames-raised, gap-excludes, excludes-never}
 use Rattle.ic3.proofs.Round.{Lands, round-lands, tested-lands, kept-lands, empty-level, level-head}
-use Rattle.ic3.proofs.Run.{Turned, searched-keeps}
+use Rattle.ic3.proofs.From.{Turned, searched-keeps}
 
 module _ (M : Model) where
   -- what the store keeps

@@ -1,5 +1,5 @@
--- Demands 2 and 3, said of a model.
-use Prim.Native.Nat.{ℕ, zero, suc, _+_, _*_, _≤_, _<_}
+-- What demands 2 and 3 speak of, said of a model: reachable states and paths, evidence that is right, and the number m.
+use Prim.Native.Nat.{ℕ, zero, suc, _≤_, _<_}
 use mathlib.Core.Bool.{Bool, true, false}
 use mathlib.Core.List.{List, [], _∷_}
 use mathlib.Core.Logic.{_↔_}
@@ -7,7 +7,6 @@ use mathlib.Core.Path.{_≡_}
 use lib.Dec.{eqb}
 use lib.ListN.{length}
 use Rattle.ic3.specs.Model.{Model}
-use Rattle.ic3.specs.Search.{Verdict, safe, unsafe, noRoom, spent, searched}
 
 -- the state s is reached from a start state in k steps
 pub data Reach (M : Model) : ℕ → ℕ → Type 0 where
@@ -29,6 +28,10 @@ unfoldable pub listed : List ℕ → ℕ → Bool
 listed [] s = false
 listed (x ∷ xs) s = elim (eqb x s) [ true ↦ true | false ↦ listed xs s ]
 
+-- some of a list holds s; while what is stored is a state, that is to be listed
+abbrev pub covers : List ℕ → ℕ → Bool
+covers xs s = listed xs s
+
 -- a set of excluded states, given as a test, is right
 pub record Excludes (M : Model) (out : ℕ → Bool) : Type 0 where
   pub no-start : (s : ℕ) → s < M .size → M .start s ≡ true → out s ≡ false
@@ -38,20 +41,13 @@ pub record Excludes (M : Model) (out : ℕ → Bool) : Type 0 where
 -- no reachable state is bad, with evidence that is right and lists states
 pub record Safe (M : Model) (evidence : List ℕ) : Type 0 where
   pub states : (s : ℕ) → listed evidence s ≡ true → s < M .size
-  pub excludes : Excludes M (listed evidence)
+  pub excludes : Excludes M (covers evidence)
   pub never : (k s : ℕ) → Reach M k s → M .bad s ≡ false
 
 -- a real path, start to bad, and none is shorter
 pub record Unsafe (M : Model) (path : List ℕ) : Type 0 where
   pub real : IsPath M path
   pub shortest : (other : List ℕ) → IsPath M other → length path ≤ length other
-
--- demand 2, of a verdict
-abbrev pub Demand-2 : Model → Verdict → Type 0
-Demand-2 M (safe evidence) = Safe M evidence
-Demand-2 M (unsafe path) = Unsafe M path
-Demand-2 M noRoom = Unit {0}
-Demand-2 M spent = Unit {0}
 
 -- s is no start state and leads to a bad one in any number of steps, none included
 pub record Doomed (M : Model) (s : ℕ) : Type 0 where
@@ -70,21 +66,3 @@ pub record Number (P : ℕ → Type 0) (m : ℕ) : Type 0 where
   pub distinct : Distinct those
   pub exact : (s : ℕ) → (listed those s ≡ true) ↔ P s
   pub many : length those ≡ m
-
--- a verdict, no giving up
-abbrev pub Answered : Verdict → Type 0
-Answered (safe evidence) = Unit {0}
-Answered (unsafe path) = Unit {0}
-Answered noRoom = ⊥
-Answered spent = ⊥
-
--- One search never asks more than `most` questions, and with room for m states and leave to ask that many it never gives up.
-pub record Bounded (M : Model) (m most : ℕ) : Type 0 where
-  pub few : (room allowance : ℕ) → searched M room allowance .questions ≤ most
-  pub answers : (room allowance : ℕ) → m ≤ room → most ≤ allowance → Answered (searched M room allowance .verdict)
-
--- demand 3: there is exactly one such m, and it bounds the search
-pub record Demand-3 (M : Model) : Type 0 where
-  pub exists : (m : ℕ) × Number (Doomed M) m
-  pub unique : (m n : ℕ) → Number (Doomed M) m → Number (Doomed M) n → m ≡ n
-  pub bounded : (m : ℕ) → Number (Doomed M) m → Bounded M m (3 * ((m + 2) * (m + 2)))

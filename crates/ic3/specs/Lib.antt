@@ -2,6 +2,8 @@
 pub mod Model
 pub mod Search
 pub mod Demands
+pub mod Theorems
+pub mod Answers
 pub mod Shape
 pub mod Canonical
 pub mod Exact

@@ -13,10 +13,14 @@ pub record Entry : Type 0 where
   pub state : ℕ
   pub level : ℕ
 
--- the level of s, 0 if it is not stored
+-- what is stored holds a state: it is that state
+abbrev pub holds : ℕ → ℕ → Bool
+holds stored s = eqb stored s
+
+-- the level of s, 0 if nothing stored holds it
 unfoldable pub levelOf : List Entry → ℕ → ℕ
 levelOf [] s = 0
-levelOf (e ∷ es) s = elim (eqb (e .state) s) [ true ↦ e .level | false ↦ levelOf es s ]
+levelOf (e ∷ es) s = elim (holds (e .state) s) [ true ↦ e .level | false ↦ levelOf es s ]
 
 -- s gets level k: its level is changed in place, or it is stored anew, behind all others. A state is stored once.
 unfoldable pub put : List Entry → ℕ → ℕ → List Entry
@@ -126,11 +130,11 @@ pub record Ending : Type 0 where
   pub questions : ℕ
 
 -- The search from c, which `asked` questions led to. Before each ask, if the allowance, of which `left` is left, is used up, it ends.
-unfoldable pub run : ℕ → Model → ℕ → Config → ℕ → Ending
-run zero M room c asked = record { verdict = spent; questions = asked }
-run (suc left) M room c asked =
-    elim (next M room c) [ go d ↦ run left M room d (suc asked) | stop v ↦ record { verdict = v; questions = suc asked } ]
+unfoldable pub searchFrom : ℕ → Model → ℕ → Config → ℕ → Ending
+searchFrom zero M room c asked = record { verdict = spent; questions = asked }
+searchFrom (suc left) M room c asked =
+    elim (next M room c) [ go d ↦ searchFrom left M room d (suc asked) | stop v ↦ record { verdict = v; questions = suc asked } ]
 
 -- The whole search. Step 1 is step 2 with N = 0: if it finds nothing, step 4 has no level to go through, and step 2 comes with N = 1.
 unfoldable pub searched : Model → ℕ → ℕ → Ending
-searched M room allowance = run allowance M room (at 0 [] look) 0
+searched M room allowance = searchFrom allowance M room (at 0 [] look) 0

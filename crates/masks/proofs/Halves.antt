@@ -1,4 +1,4 @@
--- A word of two parts, s + 2 ^ k * t: the first k positions are those of s, and those above are the positions of t. Dividing by 2 ^ k takes the
+-- A pair of two parts, s + 2 ^ k * t: the first k positions are those of s, and those above are the positions of t. Dividing by 2 ^ k takes the
 -- low part away and moves the high part down; adding a multiple of 2 ^ k changes no bit below k. Assumes nothing.
 use mathlib.Core.Path.{_≡_, sym, ap, _∙_}
 use Prim.Native.Nat.{ℕ, suc, _+_, _-_, _*_, _/_, _%_, _^_, _<_}

@@ -1,6 +1,6 @@
--- From words to states. With all positions settled but the state's m lowest, and the later half at u, the words that agree are s + 2^32 u for the
--- states s below 2^m. The front is the state's half; so a word whose front is least has the least state. What is asked of a state is then what is
--- asked of its word. Assumes nothing.
+-- From pairs to states. With all positions settled but the state's m lowest, and the later half at u, the pairs that agree are s + 2^32 u for the
+-- states s below 2^m. The front is the state's half; so a pair whose front is least has the least state. What is asked of a state is then what is
+-- asked of its pair. Assumes nothing.
 use Prim.Native.Nat.{ℕ, _+_, _-_, _*_, _/_, _%_, _^_, min, _≤_, _<_}
 use mathlib.Core.Bool.{Bool, true, false}
 use mathlib.Core.Logic.{⊎-elim}
@@ -25,12 +25,12 @@ use Rattle.question.specs.Engine.{LeastFront}
 use Rattle.question.specs.declared.Answer.{Answer}
 use Rattle.question.specs.declared.Answer.the-variants.{State, Nothing}
 use Rattle.question.specs.declared.engine.Found.{Found}
-use Rattle.question.specs.declared.engine.Found.the-variants.{Word, Nothing}
+use Rattle.question.specs.declared.engine.Found.the-variants.{Pair, Nothing}
 use Rattle.question.proofs.Agreement.{agree-at, agree-by, agree-among, among-by}
 
--- the state of the word that is found
+-- the state of the pair that is found
 abbrev pub onState : Found → Answer
-onState (Word w) = State (stateOf w)
+onState (Pair w) = State (stateOf w)
 onState (Nothing bits) = Nothing
 
 -- ---- the positions that are settled from the start
@@ -41,7 +41,7 @@ module _ (m : ℕ) (h : m ≤ 32) where
   fixed-at : (j : ℕ) → m ≤ j → j < width → bit (2 ^ width - 2 ^ m) j ≡ 1
   fixed-at j g l = beyond-all width m j (omega arith) g l
 
-  -- ---- words and states
+  -- ---- pairs and states
   module _ (u : ℕ) (fu : u < 2 ^ 32) where
     later-low : (j : ℕ) → j < 32 → bit (2 ^ 32 * u) j ≡ 0
     later-low j l = let e : 0 + 2 ^ 32 * u ≡ 2 ^ 32 * u = omega arith in sym (at-bit j e) ∙ bit-low 32 j 0 u l ∙ bit-of-zero j
@@ -71,9 +71,9 @@ module _ (m : ℕ) (h : m ≤ 32) where
     small : (s : ℕ) → s < 2 ^ m → s < 2 ^ 32
     small s f = lt-of-lt-of-le f (pow-mono h)
 
-    -- the word of a state agrees
-    word-agrees : (s : ℕ) → s < 2 ^ m → Agrees from-start (s + 2 ^ 32 * u)
-    word-agrees s f =
+    -- the pair of a state agrees
+    pair-agrees : (s : ℕ) → s < 2 ^ m → Agrees from-start (s + 2 ^ 32 * u)
+    pair-agrees s f =
         agree-by (2 ^ width - 2 ^ m) (s + 2 ^ 32 * u) (2 ^ 32 * u)
         (λ j o. ⊎-elim
         (λ l. bit-low 32 j s u l ∙ bit-past m s j f (settled-from j o) ∙ sym (later-low j l))
@@ -88,7 +88,7 @@ module _ (m : ℕ) (h : m ≤ 32) where
       same-at : (j : ℕ) → m ≤ j → j < width → bit w j ≡ bit (2 ^ 32 * u) j
       same-at j a l = agree-at (2 ^ width - 2 ^ m) w (2 ^ 32 * u) g j (fixed-at j a l)
 
-      -- a word that agrees is that of its state
+      -- a pair that agrees is that of its state
       pub state-small : stateOf w < 2 ^ m
       state-small =
           width-bits m (w % 2 ^ 32) .1
@@ -97,27 +97,27 @@ module _ (m : ℕ) (h : m ≤ 32) where
           (λ b. bit-past 32 (w % 2 ^ 32) j (mod-lt w (pow-pos 32)) b)
           (lt-or-ge j 32))
 
-      state-word : w ≡ stateOf w + 2 ^ 32 * u
-      state-word =
+      state-pair : w ≡ stateOf w + 2 ^ 32 * u
+      state-pair =
           let e : w / 2 ^ 32 ≡ u = bits-below 32 (w / 2 ^ 32) u (shr-lt 32 32 fw) fu
           (λ j l. bit-div 32 j w ∙ same-at (32 + j) (omega arith) (omega arith) ∙ later-high j) in
           omega (arith, div-add-mod' w (2 ^ 32))
 
-    -- the front of a state's word is the state
-    word-front : (s : ℕ) → s < 2 ^ m → bitAnd (s + 2 ^ 32 * u) (2 ^ 32 - 1) ≡ s
-    word-front s f = omega (arith, and-mask (s + 2 ^ 32 * u) 32, small s f)
+    -- the front of a state's pair is the state
+    pair-front : (s : ℕ) → s < 2 ^ m → bitAnd (s + 2 ^ 32 * u) (2 ^ 32 - 1) ≡ s
+    pair-front s f = omega (arith, and-mask (s + 2 ^ 32 * u) 32, small s f)
 
-    -- the state of a word whose front is least is the least state
+    -- the state of a pair whose front is least is the least state
     least-state : (P p : ℕ → Bool) → ((s : ℕ) → s < 2 ^ m → p s ≡ P (s + 2 ^ 32 * u)) → (r : Found)
         → LeastFront P (2 ^ 32 - 1) (record { bits = from-start .bits; values = from-start .values }) r → least (2 ^ m) p ≡ answered (onState r)
-    least-state P p same (Word w) L =
+    least-state P p same (Pair w) L =
         least-is (2 ^ m) p (some (stateOf w)) (record { state = small-state; fulfils = passes; first = first })
       where
         small-state : stateOf w < 2 ^ m
-        small-state = state-small w (L .word .fits) (L .word .agrees)
+        small-state = state-small w (L .pair .fits) (L .pair .agrees)
 
         passes : p (stateOf w) ≡ true
-        passes = same (stateOf w) small-state ∙ ap P (sym (state-word w (L .word .fits) (L .word .agrees))) ∙ L .word .true-of
+        passes = same (stateOf w) small-state ∙ ap P (sym (state-pair w (L .pair .fits) (L .pair .agrees))) ∙ L .pair .true-of
 
         first : (t : ℕ) → t < stateOf w → p t ≡ false
         first t l =
@@ -125,14 +125,14 @@ module _ (m : ℕ) (h : m ≤ 32) where
             test (p t)
             (λ e. absurd (omega (
               arith,
-              L .least (t + 2 ^ 32 * u) (word-agrees t f) (sym (same t f) ∙ e),
-              word-front t f,
+              L .least (t + 2 ^ 32 * u) (pair-agrees t f) (sym (same t f) ∙ e),
+              pair-front t f,
               and-mask w 32,
             )))
             (λ e. e)
     least-state P p same (Nothing reason) L =
         least-is (2 ^ m) p none
-        (λ s f. same s f ∙ L .why (s + 2 ^ 32 * u) (agree-among reason _ (s + 2 ^ 32 * u) (2 ^ 32 * u) (L .among) (word-agrees s f)))
+        (λ s f. same s f ∙ L .why (s + 2 ^ 32 * u) (agree-among reason _ (s + 2 ^ 32 * u) (2 ^ 32 * u) (L .among) (pair-agrees s f)))
 
 -- what the engine asks, from the least front
 pub asked-is : (n : ℕ) (c : Condition) (t : ℕ) (r : Found)

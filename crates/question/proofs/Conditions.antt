@@ -1,4 +1,4 @@
--- What is asked of a state is what the engine asks of its word: in R(0) with the start list and no stored state, in R(i) above with the stored
+-- What is asked of a state is what the engine asks of its pair: in R(0) with the start list and no stored state, in R(i) above with the stored
 -- states and no start list. A bad state is asked for as one that steps to state 0 by a list that does not look at later bits. Assumes nothing.
 use Prim.Native.Nat.{ℕ, zero, suc, _+_, _-_, _*_, _%_, _^_, min, _<_}
 use mathlib.Core.Bool.{not, _&&_, and-true, and-comm}
@@ -12,19 +12,19 @@ use Rattle.base.proofs.Tests.{lt-or-ge}
 use Rattle.masks.specs.Bit.{somewhere}
 use Rattle.masks.proofs.Halves.{bit-low, bit-high, bit-mod}
 use Rattle.ic3.proofs.Least.{least-same}
-use Rattle.system.specs.System.{listTrue, word}
+use Rattle.system.specs.System.{listTrue, pair}
 use Rattle.question.specs.Question.{excluded, inside, badIn, stepIn}
 use Rattle.question.specs.Condition.{width, stateOf, allowed, condition, fulfils, asked}
-use Rattle.question.proofs.Words.{Same, list-same}
+use Rattle.question.proofs.Pairs.{Same, list-same}
 
 module _ (s t : ℕ) (f : s < 2 ^ 32) where
   abbrev w : ℕ
   w = s + 2 ^ 32 * (t % 2 ^ 32)
 
-  -- the word of all positions is the word of the two states
-  same-word : Same width (word s t) w
-  unfolding word
-  same-word j l =
+  -- the pair of all positions is the pair of the two states
+  same-pair : Same width (pair s t) w
+  unfolding pair
+  same-pair j l =
       ⊎-elim
       (λ b. bit-low 32 j s t b ∙ sym (bit-low 32 j s (t % 2 ^ 32) b))
       (λ g. let e : 32 + (j - 32) ≡ j = omega arith in
@@ -35,14 +35,14 @@ module _ (s t : ℕ) (f : s < 2 ^ 32) where
   state-of = add-mul-mod-self-left s (2 ^ 32) (t % 2 ^ 32) ∙ mod-eq-of-lt f
 
   module _ (start whole states levels : List ℕ) where
-    in-start : (inside start states levels 0 s && listTrue whole (word s t)) ≡ fulfils (condition start whole [] levels 0) w
+    in-start : (inside start states levels 0 s && listTrue whole (pair s t)) ≡ fulfils (condition start whole [] levels 0) w
     unfolding inside fulfils allowed excluded somewhere
-    in-start = rw (state-of, list-same whole (word s t) w same-word, and-true (listTrue whole w))
+    in-start = rw (state-of, list-same whole (pair s t) w same-pair, and-true (listTrue whole w))
 
-    in-stored : (i : ℕ) → (inside start states levels (suc i) s && listTrue whole (word s t)) ≡ fulfils (condition [] whole states levels (suc i)) w
+    in-stored : (i : ℕ) → (inside start states levels (suc i) s && listTrue whole (pair s t)) ≡ fulfils (condition [] whole states levels (suc i)) w
     unfolding inside fulfils allowed listTrue
     in-stored i =
-        rw (state-of, list-same whole (word s t) w same-word)
+        rw (state-of, list-same whole (pair s t) w same-pair)
         (and-comm (not (excluded (suc i) states levels s)) (listTrue whole w))
 
 module _ (n : ℕ) (start whole states levels : List ℕ) where
@@ -60,7 +60,7 @@ module _ (n : ℕ) (start whole states levels : List ℕ) where
 
   -- a bad state
   pub bad-step : (i : ℕ) → badIn n start whole states levels i ≡ stepIn n start whole states levels i 0
-  unfolding badIn stepIn word
+  unfolding badIn stepIn pair
   bad-step i =
       least-same (2 ^ min n 32) _ _
       (λ s f. let e : s ≡ s + 2 ^ 32 * 0 = omega arith in ap (λ x. inside start states levels i s && listTrue whole x) e)

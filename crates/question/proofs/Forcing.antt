@@ -1,4 +1,4 @@
--- One clause against the settled bits. A clause looks at no other bits than those of its masks, so that if it is false of one word it is false of
+-- One clause against the settled bits. A clause looks at no other bits than those of its masks, so that if it is false of one pair it is false of
 -- each that agrees there. With no literal true under the settled values and none open it is false of the values themselves; with one bit open,
 -- wanted by one of the masks alone, it is false of the values with that bit at the other value. Each step is one at a single position, where
 -- `omega` has the operations as linear facts. Assumes nothing.
@@ -22,7 +22,7 @@ use Rattle.question.specs.Reason.{Agree, Sound, Reason, Forces, Setting}
 use Rattle.question.proofs.Agreement.{among-by}
 use Rattle.question.proofs.Values.{Choice, value-here, value-other, other, other-here}
 
--- a clause that is false of a word is false of each that agrees on the bits of its masks
+-- a clause that is false of a pair is false of each that agrees on the bits of its masks
 clause-why : (ones zeros v : ℕ) → clauseTrue ones zeros v ≡ false → (w : ℕ) → Agree (bitOr ones zeros) w v → clauseTrue ones zeros w ≡ false
 unfolding Agree
 clause-why ones zeros v e w a =

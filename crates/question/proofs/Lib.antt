@@ -8,7 +8,7 @@ pub mod Low
 pub mod States
 pub mod Parts
 pub mod Resolution
-pub mod Words
+pub mod Pairs
 pub mod Solving
 pub mod Walk
 pub mod Asking

@@ -12,7 +12,7 @@ use Rattle.base.proofs.Tests.{test}
 use Rattle.ic3.specs.Model.{least}
 use Rattle.ic3.specs.Demands.{listed}
 use Rattle.ic3.proofs.Least.{least-same}
-use Rattle.system.specs.System.{listTrue, word}
+use Rattle.system.specs.System.{listTrue, pair}
 use Rattle.question.specs.Question.{excluded, inside, badIn, stepIn}
 use Rattle.question.proofs.Model.{excluded-first}
 use Rattle.question.proofs.States.{excluded-none}
@@ -35,6 +35,6 @@ module _ (n : ℕ) (start list xs : List ℕ) (i : ℕ) (h : n ≤ 32) where
   unfolding badIn
   bad-outside = least-outside (listTrue list)
 
-  pub step-outside : (t : ℕ) → stepIn n start list xs [] (suc i) t ≡ least (2 ^ n) (λ s. not (listed xs s) && listTrue list (word s t))
+  pub step-outside : (t : ℕ) → stepIn n start list xs [] (suc i) t ≡ least (2 ^ n) (λ s. not (listed xs s) && listTrue list (pair s t))
   unfolding stepIn
-  step-outside t = least-outside (λ s. listTrue list (word s t))
+  step-outside t = least-outside (λ s. listTrue list (pair s t))

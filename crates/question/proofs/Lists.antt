@@ -1,4 +1,4 @@
--- What one clause of a list says, the list says. Where a clause is false of a word, so is the list from it on, and the whole list with whatever
+-- What one clause of a list says, the list says. Where a clause is false of a pair, so is the list from it on, and the whole list with whatever
 -- stands before. So a look at one clause is a look at the list: a test that fails wherever another does has all reasons of the other.
 -- Assumes nothing.
 use mathlib.Core.Path.{_≡_, refl, _∙_}

@@ -1,4 +1,4 @@
--- A word fulfils the condition only if each of its three parts holds of it; so what a look at one part says, it says of the condition. Assumes
+-- A pair fulfils the condition only if each of its three parts holds of it; so what a look at one part says, it says of the condition. Assumes
 -- nothing.
 use Prim.Native.Nat.{ℕ}
 use mathlib.Core.Bool.{Bool, and-false}

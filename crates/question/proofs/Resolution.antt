@@ -1,4 +1,4 @@
--- One bit, given one value and then the other. What fails for both values fails, for what the two reasons rest on without the bit: a word has
+-- One bit, given one value and then the other. What fails for both values fails, for what the two reasons rest on without the bit: a pair has
 -- one value there or the other, and in either case it agrees with what that reason rests on. A reason that does without the bit stands by itself.
 -- Forced bits and tried bits are resolved by the same law. Assumes nothing.
 use Prim.Native.Nat.{ℕ, _+_, _-_, _^_, _≤_, _<_}
@@ -48,7 +48,7 @@ module _ {width : ℕ} {s : Setting} {b x : ℕ} (C : Choice width s b x) (P : �
             (eq-or-ne j k)));
       }
 
-  -- a reason for the value, and a word that has it
+  -- a reason for the value, and a pair that has it
   pub reason-with : (a m : ℕ) → Reason P (more s b x) a → ((j : ℕ) → (j ≡ k → ⊥) → bit a j ≤ bit m j) → (w : ℕ) → Agree m w (s .values)
       → bit w k ≡ bit x k → P w ≡ false
   reason-with a m r l w g e =
@@ -72,7 +72,7 @@ module _ {width : ℕ} {s : Setting} {b x : ℕ} (C : Choice width s b x) (P : �
   unfolding both
   both-at j = less width (bitOr y z) b j (or-lt width y z (fits y (ry .among)) (fits z (rz .among))) (b-fits C)
 
-  -- a word has the one value or the other
+  -- a pair has the one value or the other
   eq-or-other : (v a c : ℕ) → v ≤ 1 → c + a ≡ 1 → (v ≡ a) ⊎ (v ≡ c)
   eq-or-other v a c h e = ⊎-elim inl (λ f. inr (omega (arith, f))) (eq-or-ne v a)
 

@@ -13,9 +13,9 @@ use Rattle.question.specs.Reason.{Agree, Sound, Open, Reason, Forces, Pa
 use Rattle.question.proofs.Agreement.{agree-at, among-by, among-le}
 use Rattle.question.proofs.Values.{Choice, agrees-fewer}
 use Rattle.question.proofs.Resolution.{without, reason-without, resolved-reason}
-use Rattle.question.proofs.Words.{Same}
+use Rattle.question.proofs.Pairs.{Same}
 
--- a word that passes with one bit more settled
+-- a pair that passes with one bit more settled
 pub more-passes : {width : ℕ} {s : Setting} {b x : ℕ} → Choice width s b x → (P : ℕ → Bool) (w : ℕ) → Passing width P (more s b x) w
     → Passing width P s w
 more-passes C P w p = record { fits = p .fits; agrees = agrees-fewer C w (p .agrees); true-of = p .true-of }
@@ -54,9 +54,9 @@ some-open width s h =
 
 -- ---- no bit is open
 module _ (width : ℕ) (P : ℕ → Bool) (s : Setting) (ok : Sound width s) where
-  pub full-word : P (s .values) ≡ true → Passing width P s (s .values)
+  pub full-pair : P (s .values) ≡ true → Passing width P s (s .values)
   unfolding Agree
-  full-word e =
+  full-pair e =
       record { fits = lt-of-le-of-lt (among-le (s .values) (s .bits) (ok .within)) (ok .fits); agrees = refl; true-of = e }
 
   pub full-nothing : ((w v : ℕ) → Same width w v → P w ≡ P v) → s .bits ≡ 2 ^ width - 1 → P (s .values) ≡ false → Reason P s (s .bits)

@@ -1,6 +1,6 @@
 -- Excluded states. A state is excluded exactly if some entry of the store is that state, with a level of i or more; so entries are looked at one
--- by one. An entry below 2^32 is a clause too: it wants a 0 where the entry has a 1, and a 1 where it has a 0. Such a clause is false of a word only
--- if the word's state is the entry, bit by bit; so what it says of settled bits, the store says as well. Assumes nothing.
+-- by one. An entry below 2^32 is a clause too: it wants a 0 where the entry has a 1, and a 1 where it has a 0. Such a clause is false of a pair only
+-- if the pair's state is the entry, bit by bit; so what it says of settled bits, the store says as well. Assumes nothing.
 use mathlib.Core.Path.{_≡_, sym, _∙_}
 use mathlib.Core.Bool.{Bool, true, false, _&&_, and-true, and-false, not-eq-not}
 use mathlib.Core.List.{List}
@@ -61,7 +61,7 @@ module _ (i : ℕ) (states levels : List ℕ) (s : ℕ) where
   unfolding excluded entry
   excluded-none h = somewhere-false (length states) (entry i states levels s) .1 h
 
--- the clause of the state e is false only of words with that state
+-- the clause of the state e is false only of pairs with that state
 clause-state : (e w : ℕ) → e < 2 ^ 32 → clauseTrue (2 ^ 32 - 1 - e) e w ≡ false → stateOf w ≡ e
 clause-state e w h f =
     bits-below 32 (stateOf w) e (mod-lt w (pow-pos 32)) h

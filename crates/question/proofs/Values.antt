@@ -1,5 +1,5 @@
 -- One bit more is settled. Bit b, at position k, is open and is given x: 0 or b. At k the values then have the bit of x, and elsewhere they are as
--- they were; so a word that agrees with more settled bits agrees with fewer, and one that has the value at k agrees with more. Assumes nothing.
+-- they were; so a pair that agrees with more settled bits agrees with fewer, and one that has the value at k agrees with more. Assumes nothing.
 use Prim.Native.Nat.{ℕ, _+_, _-_, _^_, _<_}
 use mathlib.Core.Logic.{_⊎_, inl, inr, ⊎-elim}
 use mathlib.Core.Path.{_≡_, sym, _∙_}
@@ -94,7 +94,7 @@ module _ {width : ℕ} {s : Setting} {b x : ℕ} (C : Choice width s b x) where
         most = ones-le width (bitOr (s .bits) b) (more-sound .fits);
       }
 
-  -- a word that agrees with more settled bits agrees with fewer
+  -- a pair that agrees with more settled bits agrees with fewer
   pub agrees-fewer : (w : ℕ) → Agrees (more s b x) w → Agrees s w
   agrees-fewer w g =
       agree-by (s .bits) w (s .values)
@@ -103,7 +103,7 @@ module _ {width : ℕ} {s : Setting} {b x : ℕ} (C : Choice width s b x) where
       (λ f. agree-at (bitOr (s .bits) b) w (bitOr (s .values) x) g j (settled-other j f ∙ o) ∙ value-other j f)
       (eq-or-ne j k))
 
-  -- a word that has the value at k agrees with more
+  -- a pair that has the value at k agrees with more
   pub agrees-more : (w : ℕ) → Agrees s w → bit w k ≡ bit x k → Agrees (more s b x) w
   agrees-more w g e =
       agree-by (bitOr (s .bits) b) w (bitOr (s .values) x)

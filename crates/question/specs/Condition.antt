@@ -1,4 +1,4 @@
--- What is asked of a word. A word has the state in its low half and the same bits one step later in its high half.
+-- What is asked of a pair. A pair has the state in its low half and the same bits one step later in its high half.
 use Prim.Native.Nat.{ℕ, _+_, _*_, _%_, _^_, min}
 use mathlib.Core.Bool.{Bool, not, _&&_}
 use mathlib.Core.List.{List}
@@ -8,19 +8,19 @@ use Rattle.ic3.specs.Model.{least}
 use Rattle.system.specs.System.{listTrue}
 use Rattle.question.specs.Question.{excluded}
 
--- a word has 64 positions
+-- a pair has 64 positions
 abbrev pub width : ℕ
 width = 64
 
--- the state of a word
+-- the state of a pair
 abbrev pub stateOf : ℕ → ℕ
 stateOf w = w % 2 ^ 32
 
--- the state of a word is not excluded
+-- the state of a pair is not excluded
 unfoldable pub allowed : List ℕ → List ℕ → ℕ → ℕ → Bool
 allowed states levels i w = not (excluded i states levels (stateOf w))
 
--- A condition: `low` is asked of the state, `whole` of the whole word, and the state must not be stored with a level of i or more.
+-- A condition: `low` is asked of the state, `whole` of the whole pair, and the state must not be stored with a level of i or more.
 pub record Condition : Type 0 where
   pub low : List ℕ
   pub whole : List ℕ
@@ -35,10 +35,10 @@ condition low whole states levels i = record { low = low; whole = whole; states 
 abbrev pub lent : RefT (List ℕ) → RefT (List ℕ) → RefT (List ℕ) → RefT (List ℕ) → ℕ → Condition
 lent low whole states levels i = condition (now low) (now whole) (now states) (now levels) i
 
--- the word w fulfils the condition
+-- the pair w fulfils the condition
 unfoldable pub fulfils : Condition → ℕ → Bool
 fulfils c w = listTrue (c .low) (stateOf w) && (listTrue (c .whole) w && allowed (c .states) (c .levels) (c .i) w)
 
--- the question as the engine asks it: the least state whose word, with t one step later, fulfils the condition
+-- the question as the engine asks it: the least state whose pair, with t one step later, fulfils the condition
 unfoldable pub asked : ℕ → Condition → ℕ → Option ℕ
 asked n c t = least (2 ^ min n 32) (λ s. fulfils c (s + 2 ^ 32 * (t % 2 ^ 32)))

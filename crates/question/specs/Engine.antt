@@ -5,7 +5,7 @@ use Rattle.question.specs.Condition.{width}
 use Rattle.question.specs.Reason.{Setting, Sound, Reason, Forces, Passing, Unfinished, Descends, LeastWord, more}
 use Rattle.question.specs.declared.Descent.{Descent}
 use Rattle.question.specs.declared.engine.Found.{Found}
-use Rattle.question.specs.declared.engine.Found.the-variants.{Word, Nothing}
+use Rattle.question.specs.declared.engine.Found.the-variants.{Pair, Nothing}
 use Rattle.question.specs.declared.look.Look.{Look}
 use Rattle.question.specs.declared.look.Look.the-variants.{Rest, Failed, Forced}
 use Rattle.question.specs.declared.look.Settled.{Settled}
@@ -33,20 +33,20 @@ Scanned P s Rest = Unit {0}
 Scanned P s (Failed reason) = Reason P (setting s) reason
 Scanned P s (Forced reason b value next) = Forces width P (setting s) reason b value
 
--- some word, or nothing and the settled bits that this rests on
+-- some pair, or nothing and the settled bits that this rests on
 abbrev pub Solved : (ℕ → Bool) → Settled → Found → Type 0
-Solved P s (Word w) = Passing width P (setting s) w
+Solved P s (Pair w) = Passing width P (setting s) w
 Solved P s (Nothing reason) = Reason P (setting s) reason
 
 -- the walk stands at d, and goes on
 abbrev pub GoesOn : (ℕ → Bool) → ℕ → Descent → Type 0
-GoesOn P front d = Unfinished width P front (setting (d .settled)) (d .word)
+GoesOn P front d = Unfinished width P front (setting (d .settled)) (d .pair)
 
 -- one bit of the walk, from d to r
 abbrev pub Walks : (ℕ → Bool) → ℕ → Descent → Descent → Type 0
-Walks P front d r = Descends width P front (setting (d .settled)) (setting (r .settled)) (r .word)
+Walks P front d r = Descends width P front (setting (d .settled)) (setting (r .settled)) (r .pair)
 
--- a word with the least front, or nothing and the settled bits that this rests on
+-- a pair with the least front, or nothing and the settled bits that this rests on
 abbrev pub LeastFront : (ℕ → Bool) → ℕ → Settled → Found → Type 0
-LeastFront P front s (Word w) = LeastWord width P front (setting s) w
+LeastFront P front s (Pair w) = LeastWord width P front (setting s) w
 LeastFront P front s (Nothing reason) = Reason P (setting s) reason

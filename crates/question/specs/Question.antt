@@ -4,11 +4,12 @@ use Prim.Native.Nat.{ℕ, zero, suc, _^_, min}
 use mathlib.Core.Bool.{Bool, not, _&&_}
 use mathlib.Core.List.{List}
 use mathlib.Core.Option.{Option, none, some}
-use lib.Dec.{eqb, leb}
+use lib.Dec.{leb}
 use lib.ListN.{length, getD}
 use Rattle.masks.specs.Bit.{somewhere}
 use Rattle.ic3.specs.Model.{least}
-use Rattle.system.specs.System.{listTrue, word}
+use Rattle.ic3.specs.Search.{holds}
+use Rattle.system.specs.System.{listTrue, pair}
 use Rattle.question.specs.declared.Answer.{Answer}
 use Rattle.question.specs.declared.Answer.the-variants.{State, Nothing}
 
@@ -19,7 +20,7 @@ answered Nothing = none
 
 -- s is stored with a level of i or more; an entry with no level beside it has every level
 unfoldable pub excluded : ℕ → List ℕ → List ℕ → ℕ → Bool
-excluded i states levels s = somewhere (length states) (λ j. eqb (getD states j 0) s && leb i (getD levels j i))
+excluded i states levels s = somewhere (length states) (λ j. holds (getD states j 0) s && leb i (getD levels j i))
 
 -- R(0) is the set of start states; for i above 0, R(i) is every state except those stored with a level of i or more
 unfoldable pub inside : List ℕ → List ℕ → List ℕ → ℕ → ℕ → Bool
@@ -32,4 +33,4 @@ badIn n start bad states levels i = least (2 ^ min n 32) (λ s. inside start sta
 
 -- the least state of R(i) that steps to t
 unfoldable pub stepIn : ℕ → List ℕ → List ℕ → List ℕ → List ℕ → ℕ → ℕ → Option ℕ
-stepIn n start step states levels i t = least (2 ^ min n 32) (λ s. inside start states levels i s && listTrue step (word s t))
+stepIn n start step states levels i t = least (2 ^ min n 32) (λ s. inside start states levels i s && listTrue step (pair s t))

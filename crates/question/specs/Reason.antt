@@ -1,4 +1,4 @@
--- What the engine's laws speak of: words of any width, as numbers that are read bit by bit. P is the condition.
+-- What the engine's laws speak of: pairs of any width, as numbers that are read bit by bit. P is the condition.
 use Prim.Native.Nat.{ℕ, _+_, _-_, _^_, _≤_, _<_}
 use mathlib.Core.Bool.{Bool, true, false}
 use mathlib.Core.Logic.{_⊎_}
@@ -8,7 +8,7 @@ use lib.Count.{ones}
 use lib.Dec.{eqb}
 use Rattle.masks.specs.Bit.{bit}
 
--- the words w and v agree on the bits of m
+-- the pairs w and v agree on the bits of m
 unfoldable pub Agree : ℕ → ℕ → ℕ → Type 0
 Agree m w v = bitAnd w m ≡ bitAnd v m
 
@@ -22,12 +22,12 @@ pub record Setting : Type 0 where
   pub bits : ℕ
   pub values : ℕ
 
--- its invariant: the settled bits are positions of a word, and the values are within them
+-- its invariant: the settled bits are positions of a pair, and the values are within them
 pub record Sound (width : ℕ) (s : Setting) : Type 0 where
   pub fits : s .bits < 2 ^ width
   pub within : Among (s .values) (s .bits)
 
--- the word w agrees on the settled bits
+-- the pair w agrees on the settled bits
 abbrev pub Agrees : Setting → ℕ → Type 0
 Agrees s w = Agree (s .bits) w (s .values)
 
@@ -48,7 +48,7 @@ pub record Falls (width : ℕ) (s r : Setting) : Type 0 where
   pub most : ones (r .bits) ≤ width
 
 -- ---- why nothing passes
--- A REASON: settled bits such that no word that agrees with the values on them passes P
+-- A REASON: settled bits such that no pair that agrees with the values on them passes P
 pub record Reason (P : ℕ → Bool) (s : Setting) (bits : ℕ) : Type 0 where
   pub among : Among bits (s .bits)
   pub why : (w : ℕ) → Agree bits w (s .values) → P w ≡ false
@@ -64,7 +64,7 @@ unfoldable pub resolved : ℕ → ℕ → ℕ → ℕ → ℕ
 resolved width x y b = elim (eqb (bitAnd x b) 0) [ true ↦ x | false ↦ bitAnd (bitOr x y) (2 ^ width - 1 - b) ]
 
 -- ---- what passes, and the walk to the least front
--- the word w agrees on the settled bits and passes
+-- the pair w agrees on the settled bits and passes
 pub record Passing (width : ℕ) (P : ℕ → Bool) (s : Setting) (w : ℕ) : Type 0 where
   pub fits : w < 2 ^ width
   pub agrees : Agrees s w
@@ -80,28 +80,28 @@ pub record TopOpen (width front : ℕ) (s : Setting) (b : ℕ) : Type 0 where
   pub inside : bit front (free .k) ≡ 1
   pub above : (j : ℕ) → free .k < j → bit front j ≤ bit (s .bits) j
 
--- the walk stands at s, with the word w in hand
+-- the walk stands at s, with the pair w in hand
 pub record Stands (width : ℕ) (P : ℕ → Bool) (s : Setting) (w : ℕ) : Type 0 where
   pub sound : Sound width s
-  pub word : Passing width P s w
+  pub pair : Passing width P s w
 
 -- it has not settled all of the front
 pub record Unfinished (width : ℕ) (P : ℕ → Bool) (front : ℕ) (s : Setting) (w : ℕ) : Type 0 where
   pub stands : Stands width P s w
   pub some : 0 < openOf width front s
 
--- From s to r no word that passes is lost: each agrees still, or its front is above that of all that do.
+-- From s to r no pair that passes is lost: each agrees still, or its front is above that of all that do.
 pub record Keeps (P : ℕ → Bool) (front : ℕ) (s r : Setting) : Type 0 where
   pub narrower : (w : ℕ) → Agrees r w → Agrees s w
   pub kept : (w : ℕ) → P w ≡ true → Agrees s w → Agrees r w ⊎ ((x : ℕ) → Agrees r x → bitAnd x front < bitAnd w front)
 
--- one bit of the walk, from s to r, where it has the word w in hand
+-- one bit of the walk, from s to r, where it has the pair w in hand
 pub record Descends (width : ℕ) (P : ℕ → Bool) (front : ℕ) (s r : Setting) (w : ℕ) : Type 0 where
   pub stands : Stands width P r w
   pub falls : Falls width s r
   pub keeps : Keeps P front s r
 
--- of the words that agree on the settled bits and pass, w has the least front
+-- of the pairs that agree on the settled bits and pass, w has the least front
 pub record LeastWord (width : ℕ) (P : ℕ → Bool) (front : ℕ) (s : Setting) (w : ℕ) : Type 0 where
-  pub word : Passing width P s w
+  pub pair : Passing width P s w
   pub least : (t : ℕ) → Agrees s t → P t ≡ true → bitAnd w front ≤ bitAnd t front

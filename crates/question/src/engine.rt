@@ -1,4 +1,4 @@
-// The engine: `settle` settles forced bits and `attempt` tries an open one, each by the other. They answer some word that fulfils the condition, or
+// The engine: `settle` settles forced bits and `attempt` tries an open one, each by the other. They answer some pair that fulfils the condition, or
 // nothing and the settled bits that this rests on; a tried bit that is not among them is not tried the other way.
 use super::look::HALF;
 use super::look::Look;
@@ -11,27 +11,27 @@ ghost use Rattle.question.specs.Condition.{width, lent, fulfils};
 ghost use Rattle.question.specs.Reason.{resolved, openOf, TopOpen};
 ghost use Rattle.question.specs.Engine.{setting, Valid, HasOpen, settledAt, Solved};
 
-// Some word, or nothing and the settled bits that this rests on.
+// Some pair, or nothing and the settled bits that this rests on.
 pub(crate) enum Found {
-    Word(u64),
+    Pair(u64),
     Nothing(u64),
 }
 
 // All 64 positions.
 const ALL: u64 = 0xFFFF_FFFF_FFFF_FFFF;
 
-// Whether a word fulfils the condition.
-fn fulfilled(low: &[u64], whole: &[u64], states: &[u64], levels: &[u32], i: u32, word: u64) -> bool
-    ensures { λ r. ⌜ r ≡ fulfils (lent (low .entry) (whole .entry) (states .entry) (levels .entry) i) word ⌝ }
+// Whether a pair fulfils the condition.
+fn fulfilled(low: &[u64], whole: &[u64], states: &[u64], levels: &[u32], i: u32, pair: u64) -> bool
+    ensures { λ r. ⌜ r ≡ fulfils (lent (low .entry) (whole .entry) (states .entry) (levels .entry) i) pair ⌝ }
 {
-    let state = word % HALF;
+    let state = pair % HALF;
     if is_excluded(states, levels, i, state) {
         return false;
     }
     if !system::list_true(low, state) {
         return false;
     }
-    system::list_true(whole, word)
+    system::list_true(whole, pair)
 }
 
 // Resolution on one bit: `a` is the reason of one of its values, `b` of the other. If `a` does without the bit it is the reason already.
@@ -87,7 +87,7 @@ pub(crate) fn settle(
                 next,
             );
             match f {
-                Found::Word(word) => Found::Word(word),
+                Found::Pair(pair) => Found::Pair(pair),
                 Found::Nothing(rest) => Found::Nothing(resolve(rest, reason, bit)),
             }
         }
@@ -97,7 +97,7 @@ pub(crate) fn settle(
                 return attempt(low, whole, states, levels, i, s, at);
             }
             if fulfilled(low, whole, states, levels, i, values) {
-                return Found::Word(values);
+                return Found::Pair(values);
             }
             Found::Nothing(bits)
         }
@@ -129,14 +129,14 @@ fn attempt(
     let bit = top_open(ALL, s);
     let f = settle(low, whole, states, levels, i, settle_at(s, bit, 0), at);
     match f {
-        Found::Word(word) => Found::Word(word),
+        Found::Pair(pair) => Found::Pair(pair),
         Found::Nothing(zero) => {
             if zero & bit == 0 {
                 return Found::Nothing(zero);
             }
             let g = settle(low, whole, states, levels, i, settle_at(s, bit, bit), at);
             match g {
-                Found::Word(word) => Found::Word(word),
+                Found::Pair(pair) => Found::Pair(pair),
                 Found::Nothing(reason) => Found::Nothing(resolve(reason, zero, bit)),
             }
         }

@@ -1,11 +1,11 @@
-// The question: the least state of R(i) that is bad, or that can step to a given state. A word has the state in its low half and the same bits
-// one step later in its high half; what is no free bit of the state is settled from the start. The engine finds some word; a walk above it goes over
-// the bits of a front, today the state's, and ends at a word whose front is least. Bits outside the front may stay open.
+// The question: the least state of R(i) that is bad, or that can step to a given state. A pair has the state in its low half and the same bits
+// one step later in its high half; what is no free bit of the state is settled from the start. The engine finds some pair; a walk above it goes over
+// the bits of a front, today the state's, and ends at a pair whose front is least. Bits outside the front may stay open.
 
 // look is look.rt: what clauses and excluded states say of settled bits.
 mod look;
 
-// engine is engine.rt: some word, or nothing and why.
+// engine is engine.rt: some pair, or nothing and why.
 mod engine;
 
 use engine::Found;
@@ -27,13 +27,13 @@ pub enum Answer {
     Nothing,
 }
 
-// Where the walk to the least front stands: what it has settled, and a word that agrees with it.
+// Where the walk to the least front stands: what it has settled, and a pair that agrees with it.
 struct Descent {
     settled: Settled,
-    word: u64,
+    pair: u64,
 }
 
-// One bit of the walk, the highest of the front that it has not settled: 0 if the word in hand or another has a 0 there, else 1.
+// One bit of the walk, the highest of the front that it has not settled: 0 if the pair in hand or another has a 0 there, else 1.
 fn descend(
     low: &[u64],
     whole: &[u64],
@@ -46,29 +46,29 @@ fn descend(
     requires { ⌜ GoesOn (fulfils (lent low whole states levels i)) front d ⌝ }
     ensures { λ r. ⌜ Walks (fulfils (lent (low .entry) (whole .entry) (states .entry) (levels .entry) i)) front d r ⌝ }
 {
-    let Descent { settled: s, word } = d;
+    let Descent { settled: s, pair } = d;
     let bit = top_open(front, s);
     let zero = settle_at(s, bit, 0);
-    if word & bit == 0 {
+    if pair & bit == 0 {
         return Descent {
             settled: zero,
-            word,
+            pair,
         };
     }
     let f = settle(low, whole, states, levels, i, zero, 0);
     match f {
-        Found::Word(lower) => Descent {
+        Found::Pair(lower) => Descent {
             settled: zero,
-            word: lower,
+            pair: lower,
         },
         Found::Nothing(_) => {
             let one = settle_at(s, bit, bit);
-            Descent { settled: one, word }
+            Descent { settled: one, pair }
         }
     }
 }
 
-// A word whose front is least: with a word in hand, a walk over the open bits of the front from the highest down.
+// A pair whose front is least: with a pair in hand, a walk over the open bits of the front from the highest down.
 fn least(
     low: &[u64],
     whole: &[u64],
@@ -82,14 +82,14 @@ fn least(
     ensures { λ r. ⌜ LeastFront (fulfils (lent (low .entry) (whole .entry) (states .entry) (levels .entry) i)) front s r ⌝ }
 {
     let f = settle(low, whole, states, levels, i, s, 0);
-    let Found::Word(word) = f else {
+    let Found::Pair(pair) = f else {
         return f;
     };
-    let mut d = Descent { settled: s, word };
+    let mut d = Descent { settled: s, pair };
     while front & !d.settled.bits != 0 {
         d = descend(low, whole, states, levels, i, front, d);
     }
-    Found::Word(d.word)
+    Found::Pair(d.pair)
 }
 
 // All positions but the n lowest, of which a state has 32 at most: what is settled from the start.
@@ -102,7 +102,7 @@ fn beyond(n: u32) -> u64
     !STATE
 }
 
-// The least state whose word, with `later` one step later, fulfils the condition.
+// The least state whose pair, with `later` one step later, fulfils the condition.
 fn ask(
     n: u32,
     low: &[u64],
@@ -120,7 +120,7 @@ fn ask(
     };
     let f = least(low, whole, states, levels, i, STATE, s);
     match f {
-        Found::Word(word) => Answer::State(word % HALF),
+        Found::Pair(pair) => Answer::State(pair % HALF),
         Found::Nothing(_) => Answer::Nothing,
     }
 }
@@ -144,7 +144,7 @@ pub fn step_in(
     ask(n, &start[..0], step, states, levels, i, target)
 }
 
-// The least state of R(i) that is bad: the list is asked of the state's word, with a later half of 0.
+// The least state of R(i) that is bad: the list is asked of the state's pair, with a later half of 0.
 pub fn bad_in(n: u32, start: &[u64], bad: &[u64], states: &[u64], levels: &[u32], i: u32) -> Answer
     ensures { λ r. ⌜ answered r ≡ badIn n (now (start .entry)) (now (bad .entry)) (now (states .entry)) (now (levels .entry)) i ⌝ }
 {

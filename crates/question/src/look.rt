@@ -1,5 +1,5 @@
 // Looks at clauses and at excluded states against settled bits: what has failed, and which bit is forced. A clause is one test of whole masks. To
-// say that nothing is forced promises nothing, since a whole word is tested in the end.
+// say that nothing is forced promises nothing, since a whole pair is tested in the end.
 use system::Clause;
 ghost use mathlib.Core.Path.{_≡_};
 ghost use lib.Dec.{leb};
@@ -28,7 +28,7 @@ pub(crate) enum Look {
     },
 }
 
-// The low half of a word is what remains by 2^32.
+// The low half of a pair is what remains by 2^32.
 pub(crate) const HALF: u64 = 1 << 32;
 
 // The positions of the state, the low half.

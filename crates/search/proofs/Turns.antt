@@ -8,9 +8,9 @@ use native.Mathlib.Numerals.{add-one}
 use native.Mathlib.Omega.{arith}
 use lib.ListN.{length}
 use Rattle.ic3.specs.Model.{Model}
-use Rattle.ic3.specs.Search.{next, run, searched}
+use Rattle.ic3.specs.Search.{next, searchFrom, searched}
 use Rattle.ic3.specs.Search as ic3
-use Rattle.ic3.proofs.Run.{run-out, run-go, run-stop}
+use Rattle.ic3.proofs.From.{from-out, from-go, from-stop}
 use Rattle.ic3.proofs.Shape.{next-keeps-shape, opening-shape}
 use Rattle.system.specs.System.{System, model}
 use Rattle.call.specs.Call.{Stores}
@@ -68,7 +68,7 @@ pub record Running (y : System) (allowance : ℕ) (s₀ : Stores) (ending : ic3.
   pub ready : Ready (y .n) (length (s₀ .states)) c s
   pub lengths : Lengths s₀ s
   pub within : asked ≤ allowance
-  pub rest : run (allowance - asked) (model y) (length (s₀ .states)) (configOf c s) asked ≡ ending
+  pub rest : searchFrom (allowance - asked) (model y) (length (s₀ .states)) (configOf c s) asked ≡ ending
 
 module _ {y : System} {allowance : ℕ} {s₀ : Stores} {ending : ic3.Ending} {c : Config} {asked : ℕ} {s s' : Stores}
     (w : Running y allowance s₀ ending c asked s) (l : Lengths s s') where
@@ -92,7 +92,7 @@ module _ {y : System} {allowance : ℕ} {s₀ : Stores} {ending : ic3.Ending} {c
           path = l .path ∙ w .lengths .path;
         };
         within = omega arith;
-        rest = rw (add-one asked) (sym (run-go (model y) room (allowance - suc asked) (configOf c s) (configOf d s') asked (sym (m .onward)))
+        rest = rw (add-one asked) (sym (from-go (model y) room (allowance - suc asked) (configOf c s) (configOf d s') asked (sym (m .onward)))
             ∙ (rw (left, add-one asked) at (w .rest)));
       }
 
@@ -101,7 +101,7 @@ module _ {y : System} {allowance : ℕ} {s₀ : Stores} {ending : ic3.Ending} {c
       → Ends (y .n) room ending v (asked + 1) s'
   running-stop h m =
       let left : allowance - asked ≡ suc (allowance - suc asked) = omega arith in
-      let all = sym (rw left at (w .rest)) ∙ run-stop (model y) room (allowance - suc asked) (configOf c s) _ asked (sym (m .onward)) in
+      let all = sym (rw left at (w .rest)) ∙ from-stop (model y) room (allowance - suc asked) (configOf c s) _ asked (sym (m .onward)) in
       record {
         verdict = sym (ap (λ z. z .verdict) all);
         questions = add-one asked ∙ sym (ap (λ z. z .questions) all);
@@ -114,7 +114,7 @@ pub running-spent : {y : System} {allowance : ℕ} {s₀ : Stores} {ending : ic3
     → Running y allowance s₀ ending c asked s → allowance ≤ asked → Ends (y .n) (length (s₀ .states)) ending Spent asked s
 running-spent {y} {allowance} {s₀} {c = c} {asked} {s} w h =
     let none : allowance - asked ≡ 0 = omega arith in
-    let all = sym (rw none at (w .rest)) ∙ run-out (model y) (length (s₀ .states)) (configOf c s) asked in
+    let all = sym (rw none at (w .rest)) ∙ from-out (model y) (length (s₀ .states)) (configOf c s) asked in
     record {
       verdict = sym (ap (λ z. z .verdict) all);
       questions = sym (ap (λ z. z .questions) all);
@@ -134,6 +134,6 @@ first-begins {room = room} w =
 
 -- the run from there is the search
 pub first-searches : (M : Model) (room allowance : ℕ) (s : Stores)
-    → run (allowance - 0) M room (configOf (config 0 0 Look) s) 0 ≡ searched M room allowance
+    → searchFrom (allowance - 0) M room (configOf (config 0 0 Look) s) 0 ≡ searched M room allowance
 unfolding storeOf window searched
 first-searches M room allowance s = rw (sub-zero allowance)

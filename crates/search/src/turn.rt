@@ -193,7 +193,7 @@ pub(super) fn all_turns(
     requires { ⌜ Begins n (length (now states)) c asked allowance (stores (now states) (now levels) (now path)) ⌝ }
     ensures { λ r. ⌜
         Ends n (length (now (states .entry)))
-        (ic3.run (allowance - asked) (model (systemOf n (now (start .entry)) (now (step .entry)) (now (bad .entry))))
+        (ic3.searchFrom (allowance - asked) (model (systemOf n (now (start .entry)) (now (step .entry)) (now (bad .entry))))
         (length (now (states .entry))) (configOf c (stores (now (states .entry)) (now (levels .entry)) (now (path .entry)))) asked)
         (r .verdict) (r .questions) (stores (now (states .exit)) (now (levels .exit)) (now (path .exit)))
         ⌝ }

@@ -49,8 +49,8 @@ pub fn next(seed: u64) -> u64 {
     b ^ (b << 17)
 }
 
-// Whether the clause is true of the word, literal by literal from bit 0 up.
-pub fn clause_holds(ones: u64, zeros: u64, word: u64) -> bool {
+// Whether the clause is true of the pair, literal by literal from bit 0 up.
+pub fn clause_holds(ones: u64, zeros: u64, pair: u64) -> bool {
     let mut left = ones | zeros;
     let mut k = 0u64;
     while k < 64 {
@@ -59,7 +59,7 @@ pub fn clause_holds(ones: u64, zeros: u64, word: u64) -> bool {
         }
         let rest = left & (left - 1);
         let bit = left ^ rest;
-        if word & bit == 0 {
+        if pair & bit == 0 {
             if zeros & bit != 0 {
                 return true;
             }
@@ -72,13 +72,13 @@ pub fn clause_holds(ones: u64, zeros: u64, word: u64) -> bool {
     false
 }
 
-// Whether every clause is true of the word. A last mask alone is no clause.
-pub fn list_holds(list: &[u64], word: u64) -> bool {
+// Whether every clause is true of the pair. A last mask alone is no clause.
+pub fn list_holds(list: &[u64], pair: u64) -> bool {
     let mut j = 0;
     while j < list.len() {
         let second = j + 1;
         if second < list.len() {
-            if !clause_holds(list[j], list[second], word) {
+            if !clause_holds(list[j], list[second], pair) {
                 return false;
             }
         }

@@ -5,7 +5,8 @@ use mathlib.Core.Path.{_≡_, refl, sym, ap, _∙_}
 use native.Mathlib.Omega.{arith}
 use lib.ListN.{length, take, replicate, length-append, length-replicate}
 use lib.Seq.{take-at}
-use Rattle.stores.specs.Over.{over, Lies}
+use Rattle.stores.specs.Lies.{Lies}
+use Rattle.stores.specs.Over.{over}
 use Rattle.stores.proofs.Over.{over-none}
 
 -- a list with zeros behind it lies in the store

@@ -1,5 +1,5 @@
--- A clause by masks: it is false of a word exactly if no bit of `ones` is 1 in the word and every bit of `zeros` is. At each of the 64 positions the
--- two literals fail exactly if the bits of the two masks and of the word meet two linear conditions; `omega` turns these into the equations of
+-- A clause by masks: it is false of a pair exactly if no bit of `ones` is 1 in the pair and every bit of `zeros` is. At each of the 64 positions the
+-- two literals fail exactly if the bits of the two masks and of the pair meet two linear conditions; `omega` turns these into the equations of
 -- masks, position by position. Assumes nothing.
 use mathlib.Core.Path.{_≡_, refl, sym}
 use mathlib.Core.Logic.{_↔_}
@@ -17,7 +17,7 @@ use Rattle.masks.proofs.Operations.{meet}
 use Rattle.masks.proofs.Somewhere.{somewhere-false}
 use Rattle.system.specs.System.{literalTrue, clauseTrue}
 
--- the literals at one position, o and z the masks' bits and v the word's
+-- the literals at one position, o and z the masks' bits and v the pair's
 literal-by-bits : (o z v : ℕ) → o ≤ 1 → z ≤ 1 → v ≤ 1
     → ((elim v as (λ x. Bool) [ zero ↦ eqb z 1 | suc b ↦ eqb o 1 ]) ≡ false) ↔ ((o + v ≤ 1) × (z ≤ v))
 literal-by-bits o z zero p q r = (λ e. omega (arith, eqb-false z 1 e), λ l. ne-eqb z 1 (omega arith))

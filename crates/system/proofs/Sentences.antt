@@ -1,4 +1,4 @@
--- Sentences of document 01, as theorems about the definitions. Those of clauses go by their literals, those of words and of refusal 3 by the bits
+-- Sentences of document 01, as theorems about the definitions. Those of clauses go by their literals, those of pairs and of refusal 3 by the bits
 -- of a number's two halves: a half is below a power of two exactly if it has no bit from there on. Assumes nothing.
 use mathlib.Core.Path.{_≡_, refl, sym, _∙_}
 use mathlib.Core.Bool.{Bool, true, false, _&&_, not-eq-not, true≢false}
@@ -15,7 +15,7 @@ use Rattle.masks.specs.Bit.{bit}
 use Rattle.masks.proofs.Bits.{bit-le, bit-of-zero, bit-past}
 use Rattle.masks.proofs.Halves.{bit-low, bit-high, bit-mod, bit-div}
 use Rattle.masks.proofs.Order.{width-bits}
-use Rattle.system.specs.System.{System, clauseTrue, listTrue, word, model, wrongBit}
+use Rattle.system.specs.System.{System, clauseTrue, listTrue, pair, model, wrongBit}
 use Rattle.system.proofs.Clauses.{clause-literals}
 
 -- "A clause with a bit in both masks is always true."
@@ -37,9 +37,9 @@ unfolding model listTrue
 empty-bad y e s = rw e
 
 -- "Positions 0 to 31 are the state's bits, 32 to 63 the same bits one step later."
-pub word-bits : (s t i : ℕ) → s < 2 ^ 32 → i < 32 → (bit (word s t) i ≡ bit s i) × (bit (word s t) (32 + i) ≡ bit t i)
-unfolding word
-word-bits s t i h l = (bit-low 32 i s t l, bit-high 32 i s t h)
+pub pair-bits : (s t i : ℕ) → s < 2 ^ 32 → i < 32 → (bit (pair s t) i ≡ bit s i) × (bit (pair s t) (32 + i) ≡ bit t i)
+unfolding pair
+pair-bits s t i h l = (bit-low 32 i s t l, bit-high 32 i s t h)
 
 -- the mask x uses only bits below `low`, and later bits below `high`
 abbrev pub UsesBelow : ℕ → ℕ → ℕ → Type 0

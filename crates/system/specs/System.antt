@@ -4,8 +4,7 @@ use mathlib.Core.Bool.{Bool, true, false, _&&_, _||_}
 use mathlib.Core.List.{List, [], _∷_}
 use lib.Dec.{eqb, ltb}
 use lib.ListN.{length}
-use Rattle.base.specs.Limits.{mostClauses}
-use Rattle.base.specs.Refusals.{_if_, _else_}
+use Rattle.base.specs.Refusals.{_if_, _else_, mostClauses}
 use Rattle.masks.specs.Bit.{bit, somewhere}
 use Rattle.ic3.specs.Model.{Model}
 
@@ -20,7 +19,7 @@ pub record System : Type 0 where
 abbrev pub systemOf : ℕ → List ℕ → List ℕ → List ℕ → System
 systemOf n start step bad = record { n = n; start = start; step = step; bad = bad }
 
--- the literals of a clause at position i: one of them is true of the word w
+-- the literals of a clause at position i: one of them is true of the pair w
 unfoldable pub literalTrue : ℕ → ℕ → ℕ → ℕ → Bool
 literalTrue ones zeros w i = elim (bit w i) [ zero ↦ eqb (bit zeros i) 1 | suc b ↦ eqb (bit ones i) 1 ]
 
@@ -35,8 +34,8 @@ listTrue (ones ∷ []) w = true
 listTrue (ones ∷ (zeros ∷ rest)) w = elim (clauseTrue ones zeros w) [ true ↦ listTrue rest w | false ↦ false ]
 
 -- positions 0 to 31 are the state's bits, 32 to 63 the same bits one step later
-unfoldable pub word : ℕ → ℕ → ℕ
-word s t = s + 2 ^ 32 * t
+unfoldable pub pair : ℕ → ℕ → ℕ
+pair s t = s + 2 ^ 32 * t
 
 -- a state is a number below 2^n
 unfoldable pub model : System → Model
@@ -44,7 +43,7 @@ model y =
     record {
       size = 2 ^ y .n;
       start = listTrue (y .start);
-      step = λ s t. listTrue (y .step) (word s t);
+      step = λ s t. listTrue (y .step) (pair s t);
       bad = listTrue (y .bad);
     }
 

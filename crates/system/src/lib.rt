@@ -1,4 +1,4 @@
-// Systems of document 01: whether a clause and a list are true of a word, and refusals 1 to 3. A clause is tested by whole masks, never bit by
+// Systems of document 01: whether a clause and a list are true of a pair, and refusals 1 to 3. A clause is tested by whole masks, never bit by
 // bit. Each public function takes every argument: a list with an odd count of masks too, of which `refusal` says that it is wrong.
 ghost use mathlib.Core.Path.{_≡_};
 ghost use Prim.Native.Nat.{_≤_};
@@ -10,20 +10,20 @@ pub struct Clause {
     pub zeros: u64,
 }
 
-// Whether the clause is true of the word: a bit wanted 1 is 1, or a bit wanted 0 is 0.
-pub fn clause_true(c: Clause, word: u64) -> bool
-    ensures { λ r. ⌜ r ≡ clauseTrue (c .ones) (c .zeros) word ⌝ }
+// Whether the clause is true of the pair: a bit wanted 1 is 1, or a bit wanted 0 is 0.
+pub fn clause_true(c: Clause, pair: u64) -> bool
+    ensures { λ r. ⌜ r ≡ clauseTrue (c .ones) (c .zeros) pair ⌝ }
 {
     let Clause { ones, zeros } = c;
-    if ones & word != 0 {
+    if ones & pair != 0 {
         return true;
     }
-    zeros & word != zeros
+    zeros & pair != zeros
 }
 
-// Whether each clause of the list is true of the word. A last mask without its second says nothing.
-pub fn list_true(list: &[u64], word: u64) -> bool
-    ensures { λ r. ⌜ r ≡ listTrue (now (list .entry)) word ⌝ }
+// Whether each clause of the list is true of the pair. A last mask without its second says nothing.
+pub fn list_true(list: &[u64], pair: u64) -> bool
+    ensures { λ r. ⌜ r ≡ listTrue (now (list .entry)) pair ⌝ }
 {
     let mut i = 0;
     while i + 1 < list.len() {
@@ -31,7 +31,7 @@ pub fn list_true(list: &[u64], word: u64) -> bool
             ones: list[i],
             zeros: list[i + 1],
         };
-        if !clause_true(c, word) {
+        if !clause_true(c, pair) {
             return false;
         }
         i += 2;

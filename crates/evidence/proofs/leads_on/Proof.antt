@@ -1,12 +1,12 @@
 -- `evidence::leads_on` meets its contract. The loop's invariant: from index j on the path leads where the whole path leads. The measure is what is left
--- of the length. A word has both states, as each is below 2^32. Assumes nothing.
+-- of the length. A pair has both states, as each is below 2^32. Assumes nothing.
 use Prim.Native.Nat.{_<_, _-_}
 use mathlib.Core.Path.{_≡_, refl, sym, _∙_}
 use native.Mathlib.Omega.{arith}
 use borrow.Author.Needs.{needs}
 use borrow.Author.Tests.{not-true, not-false}
 use lib.ListN.{length, drop}
-use Rattle.system.specs.System.{listTrue, word}
+use Rattle.system.specs.System.{listTrue, pair}
 use Rattle.evidence.specs.Check.{leadsOn}
 use Rattle.evidence.proofs.Each.{below-at}
 use Rattle.evidence.proofs.Paths.{leads-stops, leads-passes, leads-ends}
@@ -16,8 +16,8 @@ use Rattle.evidence.proofs.leads_on.Tie as tie
 abbrev Inv-loop : tie.InvT-loop
 Inv-loop step bad path j₀ j =
     (j < length path)
-    × (leadsOn (λ s t. listTrue step (word s t)) (listTrue bad) path
-    ≡ leadsOn (λ s t. listTrue step (word s t)) (listTrue bad) (drop j path))
+    × (leadsOn (λ s t. listTrue step (pair s t)) (listTrue bad) path
+    ≡ leadsOn (λ s t. listTrue step (pair s t)) (listTrue bad) (drop j path))
 
 abbrev μ-loop : tie.MeasureT-loop
 μ-loop step bad path j₀ j = length path - j
@@ -38,7 +38,7 @@ add-list-true-2 c =
     record { fits = omega (arith, below-at _ _ _ (c .before .before .loop-test .taken) small, below-at _ _ _ (at-loop .loop .inv .0) small) }
 
 returns : tie.Need-returns Inv-loop μ-loop
-unfolding word
+unfolding pair
 returns c =
     let called = c .before in
     let in-loop = called .before .before .before in
@@ -46,7 +46,7 @@ returns c =
     ∙ leads-stops _ _ _ _ (in-loop .loop-test .taken) (sym (called .list-true .ensures) ∙ not-true _ (c .if1 .taken)))
 
 loop-again : tie.Need-loop-again Inv-loop μ-loop
-unfolding word
+unfolding pair
 loop-again c =
     let called = c .before in
     let in-loop = called .before .before .before in (

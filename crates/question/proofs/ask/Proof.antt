@@ -1,9 +1,9 @@
--- `question::ask` meets its contract: the state of a word whose front is least is the least state. Assumes nothing.
+-- `question::ask` meets its contract: the state of a pair whose front is least is the least state. Assumes nothing.
 use native.Mathlib.Nat.{mod-lt}
 use native.Mathlib.Omega.{arith}
 use borrow.Author.Needs.{needs}
 use lib.Pow.{pow-pos}
-use Rattle.question.specs.declared.engine.Found.the-variants.{Word, Nothing}
+use Rattle.question.specs.declared.engine.Found.the-variants.{Pair, Nothing}
 use Rattle.question.proofs.Asking.{start-sound, asked-is}
 use Rattle.question.proofs.ask.Statement.{statement}
 use Rattle.question.proofs.ask.Tie as tie
@@ -14,7 +14,7 @@ least-requires c κs =
 
 returns : tie.Need-returns
 returns c =
-    asked-is _ _ _ (Word _)
+    asked-is _ _ _ (Pair _)
     (rw (c .before .before .before .before .beyond .ensures, c .before .f .given .1) at (c .before .before .before .least .ensures))
 
 returns-2 : tie.Need-returns-2

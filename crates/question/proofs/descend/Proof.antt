@@ -1,4 +1,4 @@
--- `question::descend` meets its contract: the highest open bit of the front is settled at 0 for a word that has a 0 there, the one in hand or one
+-- `question::descend` meets its contract: the highest open bit of the front is settled at 0 for a pair that has a 0 there, the one in hand or one
 -- that is found, and at 1 if none is found. Assumes nothing.
 use borrow.Author.Needs.{needs}
 use Rattle.question.proofs.Values.{more-sound}

@@ -1,4 +1,4 @@
--- `question::least` meets its contract. The loop's invariant is `Walked`: no word that passes and agreed at the start is lost, but for those above
+-- `question::least` meets its contract. The loop's invariant is `Walked`: no pair that passes and agreed at the start is lost, but for those above
 -- all that agree now. The measure is the number of open bits. Assumes nothing.
 use Prim.Native.Nat.{_-_}
 use borrow.Author.Needs.{needs}
@@ -10,11 +10,11 @@ use Rattle.question.proofs.least.Statement.{statement}
 use Rattle.question.proofs.least.Tie as tie
 
 abbrev Inv-loop : tie.InvT-loop
-Inv-loop low whole states levels i front word d₀ d =
-    Walked width (fulfils (condition low whole states levels i)) front (setting (d₀ .settled)) (setting (d .settled)) (d .word)
+Inv-loop low whole states levels i front pair d₀ d =
+    Walked width (fulfils (condition low whole states levels i)) front (setting (d₀ .settled)) (setting (d .settled)) (d .pair)
 
 abbrev μ-loop : tie.MeasureT-loop
-μ-loop low whole states levels i front word d₀ d = width - ones (d .settled .bits)
+μ-loop low whole states levels i front pair d₀ d = width - ones (d .settled .bits)
 
 returns : tie.Need-returns Inv-loop μ-loop
 returns c = rw (c .enum-told .given .1) (rw (c .enum-told .given .1) at (c .before .before .settle .ensures))

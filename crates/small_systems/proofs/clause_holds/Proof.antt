@@ -5,10 +5,10 @@ use Rattle.small_systems.proofs.clause_holds.Statement.{statement}
 use Rattle.small_systems.proofs.clause_holds.Tie as tie
 
 abbrev Inv-loop : tie.InvT-loop
-Inv-loop ones zeros word left₀ k₀ left k = Unit {0}
+Inv-loop ones zeros pair left₀ k₀ left k = Unit {0}
 
 abbrev μ-loop : tie.MeasureT-loop
-μ-loop ones zeros word left₀ k₀ left k = 64 - k
+μ-loop ones zeros pair left₀ k₀ left k = 64 - k
 
 pub clause-holds-spec : {M : Type 1} → statement M
 clause-holds-spec =

@@ -6,10 +6,10 @@ use Rattle.small_systems.proofs.list_holds.Statement.{statement}
 use Rattle.small_systems.proofs.list_holds.Tie as tie
 
 abbrev Inv-loop : tie.InvT-loop
-Inv-loop list word j₀ j = Unit {0}
+Inv-loop list pair j₀ j = Unit {0}
 
 abbrev μ-loop : tie.MeasureT-loop
-μ-loop list word j₀ j = length list - j
+μ-loop list pair j₀ j = length list - j
 
 pub list-holds-spec : {M : Type 1} → statement M
 list-holds-spec =

@@ -12,10 +12,10 @@ use Rattle.system.proofs.list_true.Statement.{statement}
 use Rattle.system.proofs.list_true.Tie as tie
 
 abbrev Inv-loop : tie.InvT-loop
-Inv-loop list word i₀ i = (i ≤ length list) × (listTrue list word ≡ listTrue (drop i list) word)
+Inv-loop list pair i₀ i = (i ≤ length list) × (listTrue list pair ≡ listTrue (drop i list) pair)
 
 abbrev μ-loop : tie.MeasureT-loop
-μ-loop list word i₀ i = length list - i
+μ-loop list pair i₀ i = length list - i
 
 returns : tie.Need-returns Inv-loop μ-loop
 returns c =

@@ -1,6 +1,6 @@
 -- `question::engine::settle` and `question::engine::attempt` meet their contracts. The measure is the number of open bits, doubled, and one more for
 -- `settle`: each call settles a bit, but for that of `attempt` by `settle`. What is answered follows from the answers of the calls by the laws of
--- Solving: a forced bit and a tried bit are one bit more, a reason that has the bit is resolved, and with no bit open the word itself is tested.
+-- Solving: a forced bit and a tried bit are one bit more, a reason that has the bit is resolved, and with no bit open the pair itself is tested.
 -- Assumes nothing.
 use Prim.Native.Nat.{ℕ, _+_, _-_, _*_, _<_}
 use mathlib.Core.Path.{sym, _∙_}
@@ -11,10 +11,10 @@ use borrow.Fn.PlainCycle.{Measures, is, falls, and}
 use lib.Count.{ones}
 use Rattle.question.specs.Condition.{width, fulfils}
 use Rattle.question.specs.Engine.{setting}
-use Rattle.question.proofs.Words.{fulfils-same}
+use Rattle.question.proofs.Pairs.{fulfils-same}
 use Rattle.question.proofs.Values.{Choice, more-sound, more-falls}
 use Rattle.question.proofs.Resolution.{resolved-reason}
-use Rattle.question.proofs.Solving.{more-passes, forced, at-zero, at-one, zero-enough, both-fail, some-open, full-word, full-nothing}
+use Rattle.question.proofs.Solving.{more-passes, forced, at-zero, at-one, zero-enough, both-fail, some-open, full-pair, full-nothing}
 use Rattle.question.proofs.engine.attempt.Reads as attempt
 use Rattle.question.proofs.engine.settle.Reads as settle
 use Rattle.question.proofs.engine.settle.Kinds.{ps}
@@ -145,7 +145,7 @@ module _ (t : ℕ) where
   settle-returns-2 : settle-lts.Need-returns-2 settle-calls (at μ-settle settle.Pre) settle.Post
   settle-returns-2 c =
       let s = c .before .before .before .before .before .before .before .before .before .before in
-      full-word width (fulfils _) (setting (s .args .s)) (s .pre .1) (sym (c .before .fulfilled .ensures) ∙ c .if2 .taken)
+      full-pair width (fulfils _) (setting (s .args .s)) (s .pre .1) (sym (c .before .fulfilled .ensures) ∙ c .if2 .taken)
 
   settle-returns-3 : settle-lts.Need-returns-3 settle-calls (at μ-settle settle.Pre) settle.Post
   settle-returns-3 c = rw (c .before .look .given .1) at (c .before .before .before .forced .ensures)

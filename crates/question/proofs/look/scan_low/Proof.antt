@@ -1,4 +1,4 @@
--- `question::look::scan_low` meets its contract. What `scan` says of the list with the high half settled to 0, it says of the state of every word,
+-- `question::look::scan_low` meets its contract. What `scan` says of the list with the high half settled to 0, it says of the state of every pair,
 -- for the low half of the reason. Assumes nothing.
 use native.Mathlib.Omega.{arith}
 use borrow.Author.Needs.{needs}

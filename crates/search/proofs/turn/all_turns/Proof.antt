@@ -5,7 +5,7 @@ use mathlib.Core.Path.{refl}
 use native.Mathlib.Omega.{arith}
 use borrow.Author.Needs.{needs}
 use lib.ListN.{length}
-use Rattle.ic3.specs.Search.{run}
+use Rattle.ic3.specs.Search.{searchFrom}
 use Rattle.system.specs.System.{model, systemOf}
 use Rattle.call.specs.Promise.{stores}
 use Rattle.search.specs.Lent.{configOf}
@@ -16,7 +16,7 @@ use Rattle.search.proofs.turn.all_turns.Tie as tie
 abbrev Inv-loop : tie.InvT-loop
 Inv-loop n start step bad states₀ levels₀ path₀ c₀ asked₀ allowance states levels path c asked =
     Running (systemOf n start step bad) allowance (stores states₀ levels₀ path₀)
-    (run (allowance - asked₀) (model (systemOf n start step bad)) (length states₀) (configOf c₀ (stores states₀ levels₀ path₀)) asked₀)
+    (searchFrom (allowance - asked₀) (model (systemOf n start step bad)) (length states₀) (configOf c₀ (stores states₀ levels₀ path₀)) asked₀)
     c asked (stores states levels path)
 
 abbrev μ-loop : tie.MeasureT-loop

@@ -1,4 +1,4 @@
--- A condition looks at the positions of a word and at nothing else. Assumes nothing.
+-- A condition looks at the positions of a pair and at nothing else. Assumes nothing.
 use Prim.Native.Nat.{ℕ, _%_, _^_, _<_}
 use mathlib.Core.Bool.{Bool, true, false}
 use mathlib.Core.List.{List, [], _∷_}
@@ -14,7 +14,7 @@ use Rattle.system.specs.System.{literalTrue, clauseTrue, listTrue}
 use Rattle.system.proofs.Lists.{list-pair}
 use Rattle.question.specs.Condition.{width, stateOf, allowed, Condition, fulfils}
 
--- the words w and v have the same bits below the width
+-- the pairs w and v have the same bits below the width
 abbrev pub Same : ℕ → ℕ → ℕ → Type 0
 Same width w v = (j : ℕ) → j < width → bit w j ≡ bit v j
 

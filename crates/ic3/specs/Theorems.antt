@@ -1,0 +1,31 @@
+-- Demands 2 and 3, of the search over a model.
+use Prim.Native.Nat.{ℕ, _+_, _*_, _≤_}
+use mathlib.Core.Path.{_≡_}
+use Rattle.ic3.specs.Model.{Model}
+use Rattle.ic3.specs.Search.{Verdict, safe, unsafe, noRoom, spent, searched}
+use Rattle.ic3.specs.Demands.{Safe, Unsafe, Doomed, Number}
+
+-- demand 2, of a verdict
+abbrev pub Demand-2 : Model → Verdict → Type 0
+Demand-2 M (safe evidence) = Safe M evidence
+Demand-2 M (unsafe path) = Unsafe M path
+Demand-2 M noRoom = Unit {0}
+Demand-2 M spent = Unit {0}
+
+-- a verdict, no giving up
+abbrev pub Answered : Verdict → Type 0
+Answered (safe evidence) = Unit {0}
+Answered (unsafe path) = Unit {0}
+Answered noRoom = ⊥
+Answered spent = ⊥
+
+-- One search never asks more than `most` questions, and with room for m states and leave to ask that many it never gives up.
+pub record Bounded (M : Model) (m most : ℕ) : Type 0 where
+  pub few : (room allowance : ℕ) → searched M room allowance .questions ≤ most
+  pub answers : (room allowance : ℕ) → m ≤ room → most ≤ allowance → Answered (searched M room allowance .verdict)
+
+-- demand 3: there is exactly one such m, and it bounds the search
+pub record Demand-3 (M : Model) : Type 0 where
+  pub exists : (m : ℕ) × Number (Doomed M) m
+  pub unique : (m n : ℕ) → Number (Doomed M) m → Number (Doomed M) n → m ≡ n
+  pub bounded : (m : ℕ) → Number (Doomed M) m → Bounded M m (3 * ((m + 2) * (m + 2)))
