@@ -1,5 +1,5 @@
 #!/usr/bin/env python3
-"""What the program must write: the same systems and damages, decided from document 01 alone, with sets of states and of steps."""
+"""What the program must write: the same systems and damages, decided from the scope alone, with sets of states and of steps."""
 
 import os
 import sys

@@ -1,7 +1,7 @@
 #!/usr/bin/env python3
-"""Writes the texts of the trials and the answers that document 01 gives them: `stdin` and `stdout` beside this file.
+"""Writes the texts of the trials and the answers that the scope gives them: `stdin` and `stdout` beside this file.
 
-The answers come from a reader of lines, the states of which a list is true, and the search as document 01 tells it.
+The answers come from a reader of lines, the states of which a list is true, and the search as the scope tells it.
 """
 import os
 import random

@@ -1,5 +1,5 @@
 #!/usr/bin/env python3
-"""What the program must write: the same random questions, answered from the definition in document 01 alone."""
+"""What the program must write: the same random questions, answered from the definition in the scope alone."""
 
 import os
 import sys

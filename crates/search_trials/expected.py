@@ -1,5 +1,5 @@
 #!/usr/bin/env python3
-"""What the program must write: the same systems, decided from document 01 alone, with sets of states and of steps. Each call is worked out by a
+"""What the program must write: the same systems, decided from the scope alone, with sets of states and of steps. Each call is worked out by a
 search over lists of states, and its evidence and its length held against a walk."""
 
 import os

@@ -1,4 +1,4 @@
-"""The search as document 01 tells it, for the programs that work out what the trials must write. It shares nothing with the crates."""
+"""The search as the scope tells it, for the programs that work out what the trials must write. It shares nothing with the crates."""
 
 
 class Over(Exception):
@@ -6,7 +6,7 @@ class Over(Exception):
 
 
 class Search:
-    """Steps 1 to 5 of document 01, over sets of states: `before[t]` has the states that step to t, in order, and `bad` the bad ones."""
+    """Steps 1 to 5 of the scope, over sets of states: `before[t]` has the states that step to t, in order, and `bad` the bad ones."""
 
     def __init__(self, start, before, bad, room, allowance):
         self.start, self.before, self.bad = start, before, bad

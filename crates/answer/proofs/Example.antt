@@ -1,4 +1,4 @@
--- The definition of the answer gives document 01's own example: reader, search and frames are computed. Assumes nothing.
+-- The definition of the answer gives the scope's own example: reader, search and frames are computed. Assumes nothing.
 use mathlib.Core.Path.{_≡_, refl}
 use Rattle.masks.specs.Bit.{bit, somewhere}
 use Rattle.ic3.specs.Model.{least}

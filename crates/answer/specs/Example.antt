@@ -1,4 +1,4 @@
--- The example of document 01: `scan` on Ring, input whole and output whole.
+-- The example of the scope: `scan` on Ring, input whole and output whole.
 use Prim.Native.Nat.{ℕ}
 use Prim.Native.Char.{code}
 use Prim.Native.String.{String, [] as none, _∷_ as _then_}

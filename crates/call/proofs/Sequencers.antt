@@ -1,4 +1,4 @@
--- The sequencers' clauses have the steps that document 01 gives, and each marked sequencer ends as it says. Steps and searches are computed, the
+-- The sequencers' clauses have the steps that the scope gives, and each marked sequencer ends as it says. Steps and searches are computed, the
 -- searches for the whole list at once; number, verdict, evidence and question count do not depend on what the lent stores hold, so what was
 -- computed holds of every lent stores of that room. Assumes nothing.
 use Prim.Native.Nat.{ℕ, _<_}
@@ -55,7 +55,7 @@ pub chain-given : Given chain chainGiven
 unfolding differ bit somewhere literalTrue clauseTrue listTrue pair model
 chain-given = given-by chain chainGiven refl refl refl
 
--- ---- they end as document 01 says
+-- ---- they end as the scope says
 abbrev nothing : Stores
 nothing = record { states = []; levels = []; path = [] }
 

@@ -1,4 +1,4 @@
--- The whole call of document 01: for every system, stores and allowance what it returns, and what the lent stores hold afterwards.
+-- The whole call of the scope: for every system, stores and allowance what it returns, and what the lent stores hold afterwards.
 use Prim.Native.Nat.{ℕ, zero, suc, _+_}
 use mathlib.Core.Bool.{Bool, not, _||_}
 use mathlib.Core.List.{List, []}

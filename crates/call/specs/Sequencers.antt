@@ -1,4 +1,4 @@
--- The worked sequencers that document 01 marks, as one list, and the one statement over it.
+-- The worked sequencers that the scope marks, as one list, and the one statement over it.
 use Prim.Native.Nat.{ℕ, zero, suc, _+_, _-_, _*_, _^_, _<_}
 use mathlib.Core.Bool.{Bool, true, false, _&&_, _||_}
 use mathlib.Core.List.{List, [], _∷_, _++_}
@@ -45,7 +45,7 @@ starting step bad = record { n = 2; start = 0 ∷ (1 ∷ (0 ∷ (2 ∷ []))); st
 abbrev pub three : List ℕ
 three = 1 ∷ (0 ∷ (2 ∷ (0 ∷ [])))
 
--- Ring: 0→1→2→0, 3→3, in the clauses of document 01's example file
+-- Ring: 0→1→2→0, 3→3, in the clauses of the scope's example file
 abbrev pub ringGiven : List Step
 ringGiven = (0 ⟶ 1) ∷ ((1 ⟶ 2) ∷ ((2 ⟶ 0) ∷ ((3 ⟶ 3) ∷ [])))
 
@@ -89,7 +89,7 @@ pub record Given (y : System) (steps : List Step) : Type 0 where
   pub step : (s t : ℕ) → s < 4 → t < 4 → model y .step s t ≡ given steps s t
   pub bad : (s : ℕ) → s < 4 → model y .bad s ≡ eqb s 3
 
--- a sequencer with its room and allowance, and what document 01 says of it
+-- a sequencer with its room and allowance, and what the scope says of it
 pub record Sequencer : Type 0 where
   pub system : System
   pub room : ℕ
@@ -114,7 +114,7 @@ sequencer y room allowance number said evidence questions =
 abbrev pub latePath : List ℕ
 latePath = 0 ∷ (1 ∷ (2 ∷ (3 ∷ [])))
 
--- room 4 and allowance 1,000 where document 01 names none
+-- room 4 and allowance 1,000 where the scope names none
 abbrev pub sequencers : List Sequencer
 sequencers =
     sequencer ring 4 1000 0 says-safe (3 ∷ []) 5

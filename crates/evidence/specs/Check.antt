@@ -1,4 +1,4 @@
--- The evidence check of document 01: for every system and every list of states what it answers, and how many questions it asks.
+-- The evidence check of the scope: for every system and every list of states what it answers, and how many questions it asks.
 use Prim.Native.Nat.{ℕ, zero, suc, _^_}
 use mathlib.Core.Bool.{Bool, true, false, not, _&&_}
 use mathlib.Core.List.{List, [], _∷_}
@@ -11,7 +11,7 @@ use Rattle.system.specs.System.{System, model, refusalOf}
 use Rattle.evidence.specs.declared.Checked.{Checked}
 use Rattle.evidence.specs.declared.Checked.the-variants.{Yes, No, Refused}
 
--- document 01's number, and the count of questions; a refusal reports none
+-- the scope's number, and the count of questions; a refusal reports none
 abbrev pub numberOf : Checked → ℕ
 numberOf (Yes questions) = 0
 numberOf (No questions) = 0

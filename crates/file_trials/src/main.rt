@@ -1,6 +1,6 @@
 // House files, well-formed and damaged, given to `answer`, whose answers are written one after the other. The texts come on standard input, in pieces:
 // two bytes for how often a piece is repeated and two for its length, the high byte first, then the piece. A piece that is repeated no times ends a
-// text. The files `stdin` and `stdout` are from `expected.py`, which reads and answers the texts from document 01 alone.
+// text. The files `stdin` and `stdout` are from `expected.py`, which reads and answers the texts from the scope alone.
 
 // How many pieces may come. There are fewer.
 const PIECES: u32 = 100000;

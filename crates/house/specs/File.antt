@@ -1,4 +1,4 @@
--- House files of document 01: what a text says, or the first refusal and its line.
+-- House files of the scope: what a text says, or the first refusal and its line.
 use Prim.Native.Nat.{ℕ, zero, suc, _+_, _*_, _/_, _%_}
 use mathlib.Core.Bool.{Bool, true, false, _&&_, _||_}
 use mathlib.Core.List.{List, [], _∷_, _++_}

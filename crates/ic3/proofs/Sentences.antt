@@ -1,4 +1,4 @@
--- Sentences of document 01 that follow from the definitions and the demands. Assumes nothing.
+-- Sentences of the scope that follow from the definitions and the demands. Assumes nothing.
 use Prim.Native.Nat.{ℕ, zero, suc, _+_, _*_, _≤_, _<_}
 use mathlib.Core.Bool.{false}
 use mathlib.Core.List.{List, [], _∷_}

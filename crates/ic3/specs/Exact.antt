@@ -1,4 +1,4 @@
--- Beyond demand 3: the exact bound, and Chain of document 01, a model that meets it.
+-- Beyond demand 3: the exact bound, and Chain of the scope, a model that meets it.
 use Prim.Native.Nat.{ℕ, _+_, _*_, max}
 use mathlib.Core.Bool.{_&&_, _||_}
 use mathlib.Core.List.{[], _∷_}

@@ -1,4 +1,4 @@
--- The search of document 01, made exact: a machine in which every configuration awaits one question. So a unit of the allowance is a
+-- The search of the scope, made exact: a machine in which every configuration awaits one question. So a unit of the allowance is a
 -- question, the search recurs on the allowance, and what holds of a search is shown for one question at a time.
 use Prim.Native.Nat.{ℕ, zero, suc, _-_}
 use mathlib.Core.Bool.{Bool, true, false, _&&_}

@@ -1,4 +1,4 @@
--- The two kinds of question of document 01, over lent lists: a state of R(i) that is bad, and a state of R(i) that can step to a given state.
+-- The two kinds of question of the scope, over lent lists: a state of R(i) that is bad, and a state of R(i) that can step to a given state.
 -- Every input has its answer: lists and stores are taken as they are, and an n above 32 for 32.
 use Prim.Native.Nat.{ℕ, zero, suc, _^_, min}
 use mathlib.Core.Bool.{Bool, not, _&&_}

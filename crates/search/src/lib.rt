@@ -1,4 +1,4 @@
-// The public call: the search of document 01 over lent stores. It refuses with 1 to 4 by what `system` and `call` say, and leaves the stores
+// The public call: the search of the scope over lent stores. It refuses with 1 to 4 by what `system` and `call` say, and leaves the stores
 // untouched then; else it runs the turns from step 1 on and leaves the stores with the evidence alone. The state store and the level store hold
 // the stored states (store.rt), the path store the open duties (react.rt), and turn.rt asks. So the three lent slices are all the memory there is,
 // and every answer is in place when the run ends.
@@ -64,7 +64,7 @@ fn close(states: &mut [u64], levels: &mut [u32], path: &mut [u64], ending: Endin
     outcome
 }
 
-// The call of document 01.
+// The call of the scope.
 pub fn search(
     n: u32,
     start: &[u64],

@@ -1,5 +1,5 @@
 // Searches of small random systems, compared with a walk over all states, which shares no code with the search or the question. The file `stdout`
-// is from `expected.py`, which makes the same systems, walks, and searches once more as document 01 says.
+// is from `expected.py`, which makes the same systems, walks, and searches once more as the scope says.
 
 mod counts;
 mod systems;

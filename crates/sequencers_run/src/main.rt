@@ -1,5 +1,5 @@
-// The worked sequencers of document 01, and calls at the edge of each refusal, a line each: the number, the verdict, the questions, the evidence,
-// and what the three stores hold afterwards. The file `stdout` is worked out by hand from document 01.
+// The worked sequencers of the scope, and calls at the edge of each refusal, a line each: the number, the verdict, the questions, the evidence,
+// and what the three stores hold afterwards. The file `stdout` is worked out by hand from the scope.
 ghost use Prim.Native.Nat.{_≤_};
 ghost use lib.ListN.{length};
 
@@ -8,7 +8,7 @@ const ZERO: [u64; 4] = [0, 1, 0, 2];
 
 const THREE: [u64; 4] = [1, 0, 2, 0];
 
-// 0→1→2→0, 3→3, in the clauses of document 01's example file.
+// 0→1→2→0, 3→3, in the clauses of the scope's example file.
 const RING: [u64; 12] = [
     0x2_0000_0000,
     0x0_0000_0001,

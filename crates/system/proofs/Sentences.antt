@@ -1,4 +1,4 @@
--- Sentences of document 01, as theorems about the definitions. Those of clauses go by their literals, those of pairs and of refusal 3 by the bits
+-- Sentences of the scope, as theorems about the definitions. Those of clauses go by their literals, those of pairs and of refusal 3 by the bits
 -- of a number's two halves: a half is below a power of two exactly if it has no bit from there on. Assumes nothing.
 use mathlib.Core.Path.{_≡_, refl, sym, _∙_}
 use mathlib.Core.Bool.{Bool, true, false, _&&_, not-eq-not, true≢false}

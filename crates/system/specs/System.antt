@@ -1,4 +1,4 @@
--- Systems of document 01: what they are, what they mean, and refusals 1 to 3.
+-- Systems of the scope: what they are, what they mean, and refusals 1 to 3.
 use Prim.Native.Nat.{ℕ, zero, suc, _+_, _*_, _/_, _%_, _^_}
 use mathlib.Core.Bool.{Bool, true, false, _&&_, _||_}
 use mathlib.Core.List.{List, [], _∷_}

@@ -1,4 +1,4 @@
-// Systems of document 01: whether a clause and a list are true of a pair, and refusals 1 to 3. A clause is tested by whole masks, never bit by
+// Systems of the scope: whether a clause and a list are true of a pair, and refusals 1 to 3. A clause is tested by whole masks, never bit by
 // bit. Each public function takes every argument: a list with an odd count of masks too, of which `refusal` says that it is wrong.
 ghost use mathlib.Core.Path.{_≡_};
 ghost use Prim.Native.Nat.{_≤_};
