@@ -316,25 +316,6 @@ fn take_line(
 
 // ---- line after line
 
-// Nothing was read.
-fn begin(text: &[u8]) -> Progress
-    ensures { λ r. ⌜ r ≡ begun (now (text .entry)) ⌝ }
-{
-    Progress {
-        more: 0 < text.len(),
-        number: 0,
-        line: 1,
-        place: Place {
-            stage: 0,
-            n: 0,
-            clauses: 0,
-            start: 0,
-            step: 0,
-            bad: 0,
-        },
-    }
-}
-
 // The line from this index to its end, taken; a refusal ends the reading.
 fn take_turn(
     text: &[u8],
@@ -426,7 +407,19 @@ fn read_lines(text: &[u8], start: &mut [u64], step: &mut [u64], bad: &mut [u64])
     requires { ⌜ Lie (begun (now text) .place) (lists (now start) (now step) (now bad)) ⌝ }
     ensures { λ r. ⌜ Took (now (text .entry)) (lists (now (start .entry)) (now (step .entry)) (now (bad .entry))) r (lists (now (start .exit)) (now (step .exit)) (now (bad .exit))) ⌝ }
 {
-    let s = begin(text);
+    let s = Progress {
+        more: 0 < text.len(),
+        number: 0,
+        line: 1,
+        place: Place {
+            stage: 0,
+            n: 0,
+            clauses: 0,
+            start: 0,
+            step: 0,
+            bad: 0,
+        },
+    };
     house_of(take_lines(text, s, start, step, bad))
 }
 

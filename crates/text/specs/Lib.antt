@@ -1,3 +1,3 @@
 -- The root of the definitions.
 pub mod Lines
-pub mod Writing
+pub mod Places

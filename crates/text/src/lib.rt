@@ -2,10 +2,9 @@
 // the work is done by `line_length`, over a plain slice, and the two functions of the reader are thin.
 ghost use mathlib.Core.List.{[], _∷_};
 ghost use mathlib.Core.Path.{_≡_};
-ghost use Prim.Native.Nat.{_+_};
 ghost use lib.ListN.{drop};
 ghost use Rattle.text.specs.Lines.{lineLength};
-ghost use Rattle.text.specs.Writing.{laid};
+ghost use Rattle.text.specs.Places.{opened, moved};
 
 // How many bytes the line at this index has, with its line feed; 0 where the text has ended.
 pub fn line_length(text: &[u8], at: usize) -> usize
@@ -29,14 +28,14 @@ pub struct Reader<'a> {
 
 // The whole text is still to be read.
 pub fn new<'a>(text: &'a [u8]) -> Reader<'a>
-    ensures { λ r. ⌜ (r .text ≡ text .entry) × (r .at ≡ 0) ⌝ }
+    ensures { λ r. ⌜ r ≡ opened (text .entry) ⌝ }
 {
     Reader { text, at: 0 }
 }
 
 // The next line is taken: the reader stands behind it, and stays where it is at the end of the text.
 pub fn next_line<'a>(r: Reader<'a>) -> Reader<'a>
-    ensures { λ q. ⌜ (q .text ≡ r .entry .text) × (q .at ≡ r .entry .at + lineLength (drop (r .entry .at) (now (r .entry .text)))) ⌝ }
+    ensures { λ q. ⌜ q ≡ moved (r .entry) ⌝ }
 {
     let len = line_length(r.text, r.at);
     Reader {

@@ -5,9 +5,7 @@ use Rattle.house.proofs.read_lines.Statement.{statement}
 use Rattle.house.proofs.read_lines.Tie as tie
 
 take-lines-requires : tie.Need-take-lines-requires
-take-lines-requires c κs =
-    let begun = c .before .before .before in
-    rw (begun .begin .ensures) (stands-first _ _ (begun .before .before .before .before .before .pre))
+take-lines-requires c κs = stands-first _ _ (c .before .before .before .before .before .before .before .pre)
 
 returns : tie.Need-returns
 returns c =
@@ -18,7 +16,6 @@ pub read-lines-spec : {M : Type 1} → statement M
 read-lines-spec =
     tie.close
     (tie.spec
-    (λ c κs. search needs)
     take-lines-requires
     (λ c κs. search needs)
     (λ c. search needs)

@@ -51,7 +51,8 @@ use denote.Triple.Walked.{walked, walk-meets}
 use denote.Exit.{yes}
 use Rattle.text.proofs.Lines.{line-at}
 use Rattle.text.proofs.Walking.{slice, Token, Blocks, framed, cells, allocated, freed, tests}
-use Rattle.text.proofs.Holding.{New, Next, Text, reader, end-of, twice, text-typed, reader-typed, calls-new, calls-next}
+use Rattle.text.specs.Places.{moved}
+use Rattle.text.proofs.Holding.{New, Next, Text, reader, twice, text-typed, reader-typed, calls-new, calls-next}
 use Rattle.text.proofs.Reader.Laws as R′
 use Rattle.text.proofs.new.Symbol as new-def
 use Rattle.text.proofs.new.Symbol.{name as #text·new}
@@ -96,6 +97,10 @@ Known s = Is P.the-row s (P′.lowered s ∷ [])
 
 value : (s : Progress) (u : Val) → Is P.the-row s (u ∷ []) → u ≡ P′.lowered s
 value s u is = ap only (LL.tells P.the-type P′.the-laws s _ is)
+
+-- the place behind the line at i
+abbrev end-of : RefT (List ℕ) → ℕ → ℕ
+end-of x i = moved (reader x i) .at
 
 -- ---- the loop
 module _ (x : RefT (List ℕ)) (before : Lists) where

@@ -126,14 +126,14 @@ module _ {M : Type 1} (𝓤 : URA M) (H : Heap 𝓤) (A : Atoms 𝓤) (W : Given
   said r = exE 𝓤 _ (λ ws. snd∗ 𝓤 (sem 𝓤 H A (lasts line-length.ended (κ, tt) vd ws)) (fact 𝓤 (r ≡ found)))
 
   -- the reader with another place
-  abbrev moved : ℕ → Reader
-  moved n = record { text = d .text; at = n }
+  abbrev placed : ℕ → Reader
+  placed n = record { text = d .text; at = n }
 
-  exits : (len : ℕ) → len ≡ found → d .at + len < 2 ^ 64 → ent 𝓤 (⋆ 𝓤 H A (Token 𝓤 κ q ∷ ‵ Own ∷ [])) (Post (T′.lowered (moved (d .at + len))))
+  exits : (len : ℕ) → len ≡ found → d .at + len < 2 ^ 64 → ent 𝓤 (⋆ 𝓤 H A (Token 𝓤 κ q ∷ ‵ Own ∷ [])) (Post (T′.lowered (placed (d .at + len))))
   exits len e ok =
       qed W (Token 𝓤 κ q ∷ ‵ Own ∷ []) ∵
       suffices ! _ (ends-at 𝓤 H A next-line.ended stayed (next-line.clauses 𝓤 H A mem run) W (((κ, tt), (q, tt), tt, (d, tt), (mach ∷ [], tt)), tt)
-      (T′.lowered (moved (d .at + len))) (moved (d .at + len)) (tt, tt) (tt, tt)) $ says ! (refl, ap (λ n. d .at + n) e) $
+      (T′.lowered (placed (d .at + len))) (placed (d .at + len)) (tt, tt) (tt, tt)) $ says ! (ap (λ n. placed (d .at + n)) e) $
       frame ! $ use1 W (‵ Own ⊛ ‵ Own) twice $ split ! $ nothing ! $ move ! (1 ∷ 0 ∷ []) $ fjoin ! $ frame ! $
       owned ! usize (Is usize) (uint-makes 𝓤 H A W w64) (d .at + len) _ (refl, ok) $ move ! (1 ∷ 0 ∷ []) $
       by ! (own-put 𝓤 H A W D L 1 vd (d .at + len) mach)
