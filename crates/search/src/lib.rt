@@ -1,7 +1,7 @@
-// The public call: the search of the scope over lent stores. It refuses with 1 to 4 by what `system` and `call` say, and leaves the stores
-// untouched then; else it runs the turns from step 1 on and leaves the stores with the evidence alone. The state store and the level store hold
-// the stored states (store.rt), the path store the open duties (react.rt), and turn.rt asks. So the three lent slices are all the memory there is,
-// and every answer is in place when the run ends.
+// The public call: the search of document 01 over lent stores. It takes every input: it refuses with 1 to 4 by what `system` and `call` say and
+// leaves the stores untouched, or it runs the turns from step 1 on, gives up with 5 or 6 where they do, and leaves the stores with the evidence
+// alone. The three lent slices are all the memory there is: the state store and the level store hold the stored states (store.rt), the path store
+// the open duties (react.rt), so that a path is in place when it is found; turn.rt asks the questions.
 mod react;
 mod store;
 mod turn;
