@@ -1,4 +1,4 @@
-// The public call: the search of document 01 over lent stores. It takes every input: it refuses with 1 to 4 by what `system` and `call` say and
+// The public call: the search of the scope over lent stores. It takes every input: it refuses with 1 to 4 by what `system` and `call` say and
 // leaves the stores untouched, or it runs the turns from step 1 on, gives up with 5 or 6 where they do, and leaves the stores with the evidence
 // alone. The three lent slices are all the memory there is: the state store and the level store hold the stored states (store.rt), the path store
 // the open duties (react.rt), so that a path is in place when it is found; turn.rt asks the questions.

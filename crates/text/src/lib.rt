@@ -5,6 +5,7 @@ ghost use mathlib.Core.Path.{_≡_};
 ghost use lib.ListN.{drop};
 ghost use Rattle.text.specs.Lines.{lineLength};
 ghost use Rattle.text.specs.Places.{opened, moved};
+ghost use Rattle.text.specs.Writing.{laid};
 
 // How many bytes the line at this index has, with its line feed; 0 where the text has ended.
 pub fn line_length(text: &[u8], at: usize) -> usize
