@@ -6,16 +6,12 @@ use mathlib.Core.List.{List, [], _∷_}
 use mathlib.Core.Option.{Option, none, some}
 use lib.Dec.{eqb, ltb, leb}
 use lib.ListN.{length}
-use Rattle.ic3.specs.Model.{Model, least}
+use Rattle.ic3.specs.Model.{Model, holds, least}
 
 -- a stored state and its level
 pub record Entry : Type 0 where
   pub state : ℕ
   pub level : ℕ
-
--- what is stored holds a state: it is that state
-abbrev pub holds : ℕ → ℕ → Bool
-holds stored s = eqb stored s
 
 -- the level of s, 0 if nothing stored holds it
 unfoldable pub levelOf : List Entry → ℕ → ℕ

@@ -7,8 +7,7 @@ use mathlib.Core.Option.{Option, none, some}
 use lib.Dec.{leb}
 use lib.ListN.{length, getD}
 use Rattle.masks.specs.Bit.{somewhere}
-use Rattle.ic3.specs.Model.{least}
-use Rattle.ic3.specs.Search.{holds}
+use Rattle.ic3.specs.Model.{least, holds}
 use Rattle.system.specs.System.{listTrue, pair}
 use Rattle.question.specs.declared.Answer.{Answer}
 use Rattle.question.specs.declared.Answer.the-variants.{State, Nothing}
