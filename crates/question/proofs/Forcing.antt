@@ -18,7 +18,7 @@ use Rattle.masks.proofs.OneBit.{pow-here, pow-other}
 use Rattle.masks.proofs.Ends.{lowest-end}
 use Rattle.system.specs.System.{clauseTrue}
 use Rattle.system.proofs.Clauses.{clause-literals}
-use Rattle.question.specs.Reason.{Agree, Sound, Reason, Forces, Setting}
+use Rattle.question.specs.Reason.{Agree, Reason, Forces, Setting}
 use Rattle.question.proofs.Agreement.{among-by}
 use Rattle.question.proofs.Values.{Choice, value-here, value-other, other, other-here}
 
@@ -56,7 +56,7 @@ zero-or-power k m none =
     (λ o. inr (bits-at k m (2 ^ k) (omega (arith, pow-here k)) (λ j f. omega (arith, none j f, pow-other k j f))))
     (bit-cases m k)
 
-module _ (width ones zeros : ℕ) (s : Setting) (p : ones < 2 ^ width) (q : zeros < 2 ^ width) (ok : Sound width s)
+module _ (width ones zeros : ℕ) (s : Setting) (p : ones < 2 ^ width) (q : zeros < 2 ^ width) (fs : s .bits < 2 ^ width)
     (no-ones : bitAnd ones (s .values) ≡ 0) (no-zeros : bitAnd zeros (s .values) ≡ bitAnd zeros (s .bits)) where
   -- the open bits that are wanted 1
   abbrev want-1 : ℕ
@@ -67,10 +67,10 @@ module _ (width ones zeros : ℕ) (s : Setting) (p : ones < 2 ^ width) (q : zero
   want-0 = bitAnd zeros (2 ^ width - 1 - s .bits)
 
   open-1 : (j : ℕ) → bit want-1 j ≡ bit ones j - bit (s .bits) j
-  open-1 j = less width ones (s .bits) j p (ok .fits)
+  open-1 j = less width ones (s .bits) j p fs
 
   open-0 : (j : ℕ) → bit want-0 j ≡ bit zeros j - bit (s .bits) j
-  open-0 j = less width zeros (s .bits) j q (ok .fits)
+  open-0 j = less width zeros (s .bits) j q fs
 
   -- a bit that is wanted 1 is no 1 of the values
   wanted-1 : (j : ℕ) → bit ones j + bit (s .values) j ≤ 1
@@ -117,8 +117,18 @@ module _ (width ones zeros : ℕ) (s : Setting) (p : ones < 2 ^ width) (q : zero
     abbrev forced : Choice width s (bitOr want-1 want-0) want-1
     forced =
         record {
-          sound = ok;
           free = record { k = k; low = low; is = is; unsettled = unsettled };
+          empty =
+              omega (
+                arith,
+                alone,
+                open-1 k,
+                open-0 k,
+                wanted-1 k,
+                meet zeros (s .values) k,
+                meet zeros (s .bits) k,
+                at-bit k no-zeros,
+              );
           either =
               ⊎-elim inl (λ e. inr (e ∙ sym is)) (zero-or-power k want-1 (λ j f. elsewhere j f .0));
         }

@@ -7,16 +7,16 @@ use mathlib.Core.Bool.{Bool, false}
 use Prim.Native.Nat.{ℕ, _-_, _%_, _^_, _≤_, _<_}
 use native.Mathlib.Nat.{mod-lt}
 use native.Mathlib.Omega.{arith}
-use lib.Bits.{bitOr, or-lt}
+use lib.Bits.{bitOr}
 use lib.Pow.{pow-pos}
 use Rattle.base.proofs.Tests.{lt-or-ge}
 use Rattle.masks.specs.Bit.{bit}
 use Rattle.masks.proofs.Bits.{bit-past}
 use Rattle.masks.proofs.Operations.{join, beyond-none, beyond-all}
 use Rattle.masks.proofs.Halves.{bit-mod}
-use Rattle.question.specs.Reason.{Agree, Among, Sound, Open, Reason, Forces, Setting}
+use Rattle.question.specs.Reason.{Agree, Among, Open, Reason, Forces, Setting}
 use Rattle.question.proofs.Agreement.{agree-at, agree-by, among-at, among-by}
-use Rattle.question.proofs.Values.{x-other, other}
+use Rattle.question.proofs.Values.{x-other, other-value}
 
 module _ (width half : ℕ) (h : half ≤ width) where
   -- the positions above the low part
@@ -46,13 +46,6 @@ module _ (width half : ℕ) (h : half ≤ width) where
   abbrev pub lowered : Setting → Setting
   lowered s = record { bits = bitOr (s .bits) high; values = s .values % 2 ^ half }
 
-  pub lowered-sound : (s : Setting) → Sound width s → Sound width (lowered s)
-  lowered-sound s ok =
-      record {
-        fits = or-lt width (s .bits) high (ok .fits) (omega (arith, pow-pos width, pow-pos half));
-        within = low-among (s .values) (s .bits) (bitOr (s .bits) high) (λ j l. omega (arith, join (s .bits) high j)) (ok .within);
-      }
-
   module _ (P : ℕ → Bool) where
     -- a reason at u, which has the low part of v and nothing above, is one for the low part at v
     low-why : (m u v : ℕ) → ((j : ℕ) → j < half → bit u j ≡ bit v j) → ((j : ℕ) → half ≤ j → bit u j ≡ 0)
@@ -77,7 +70,7 @@ module _ (width half : ℕ) (h : half ≤ width) where
                 low-why reason (s .values % 2 ^ half) (s .values) (λ j l. bit-mod half j (s .values) l) (low-above (s .values)) (r .why);
           }
 
-      module _ (b value : ℕ) (ok : Sound width s) (F : Forces width P (lowered s) reason b value) where
+      module _ (b value : ℕ) (F : Forces width P (lowered s) reason b value) where
         abbrev k : ℕ
         k = F .free .k
 
@@ -102,7 +95,7 @@ module _ (width half : ℕ) (h : half ≤ width) where
         other-above : (j : ℕ) → half ≤ j → bit (b - value) j ≡ 0
         other-above j g =
             let not-k : j ≡ k → ⊥ = λ e. omega (arith, of-low) in
-            x-other (other (record { sound = ok; free = free; either = F .either })) j not-k
+            x-other free (other-value (F .either)) j not-k
 
         -- what is forced, is forced for the low part of the reason
         pub low-forces : Forces width (λ w. P (w % 2 ^ half)) s (reason % 2 ^ half) b value

@@ -15,7 +15,7 @@ use Rattle.masks.specs.Bit.{bit}
 use Rattle.masks.proofs.Bits.{bit-le}
 use Rattle.masks.proofs.Operations.{join, less}
 use Rattle.masks.proofs.OneBit.{and-pow}
-use Rattle.question.specs.Reason.{Agree, Among, Reason, more, resolved, Setting}
+use Rattle.question.specs.Reason.{Agree, Among, Sound, Reason, more, resolved, Setting}
 use Rattle.question.proofs.Agreement.{agree-at, agree-by, among-at, among-by, among-le}
 use Rattle.question.proofs.Values.{Choice, b-here, b-other, b-fits, value-here, value-other, settled-other, other, other-here, more-sound}
 
@@ -58,7 +58,7 @@ module _ {width : ℕ} {s : Setting} {b x : ℕ} (C : Choice width s b x) (P : �
       (eq-or-ne j k)))
 
 -- RESOLUTION: y is the reason of the one value, z that of the other
-module _ {width : ℕ} {s : Setting} {b x : ℕ} (C : Choice width s b x) (P : ℕ → Bool)
+module _ {width : ℕ} {s : Setting} {b x : ℕ} (ok : Sound width s) (C : Choice width s b x) (P : ℕ → Bool)
     (y z : ℕ) (ry : Reason P (more s b x) y) (rz : Reason P (more s b (b - x)) z) where
   -- the two reasons together, without the bit
   both : ℕ
@@ -66,11 +66,11 @@ module _ {width : ℕ} {s : Setting} {b x : ℕ} (C : Choice width s b x) (P : �
 
   -- a reason is a mask of the width
   fits : (a : ℕ) → Among a (bitOr (s .bits) b) → a < 2 ^ width
-  fits a h = lt-of-le-of-lt (among-le a (bitOr (s .bits) b) h) (more-sound C .fits)
+  fits a h = lt-of-le-of-lt (among-le a (bitOr (s .bits) b) h) (more-sound C ok .fits)
 
   both-at : (j : ℕ) → bit both j ≡ bit (bitOr y z) j - bit b j
   unfolding both
-  both-at j = less width (bitOr y z) b j (or-lt width y z (fits y (ry .among)) (fits z (rz .among))) (b-fits C)
+  both-at j = less width (bitOr y z) b j (or-lt width y z (fits y (ry .among)) (fits z (rz .among))) (b-fits (C .free))
 
   -- a pair has the one value or the other
   eq-or-other : (v a c : ℕ) → v ≤ 1 → c + a ≡ 1 → (v ≡ a) ⊎ (v ≡ c)
@@ -81,7 +81,7 @@ module _ {width : ℕ} {s : Setting} {b x : ℕ} (C : Choice width s b x) (P : �
       record {
         among =
             among-without C P both
-            (omega (arith, both-at (C .free .k), b-here C, bit-le (bitOr y z) (C .free .k)))
+            (omega (arith, both-at (C .free .k), b-here (C .free), bit-le (bitOr y z) (C .free .k)))
             (among-by both (bitOr (s .bits) b) (λ j.
             omega (
               arith,
@@ -92,8 +92,8 @@ module _ {width : ℕ} {s : Setting} {b x : ℕ} (C : Choice width s b x) (P : �
             )));
         why = λ w g.
             ⊎-elim
-            (λ q. reason-with C P y both ry (λ j f. omega (arith, both-at j, join y z j, b-other C j f)) w g q)
-            (λ q. reason-with (other C) P z both rz (λ j f. omega (arith, both-at j, join y z j, b-other C j f)) w g q)
+            (λ q. reason-with C P y both ry (λ j f. omega (arith, both-at j, join y z j, b-other (C .free) j f)) w g q)
+            (λ q. reason-with (other C) P z both rz (λ j f. omega (arith, both-at j, join y z j, b-other (C .free) j f)) w g q)
             (eq-or-other (bit w (C .free .k)) _ _ (bit-le w (C .free .k)) (other-here C));
       }
 

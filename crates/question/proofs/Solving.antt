@@ -8,14 +8,19 @@ use native.Mathlib.Nat.{lt-of-le-of-lt, mod-eq-of-lt}
 use native.Mathlib.Omega.{arith}
 use lib.Bits.{bitAnd, and-comm, and-mask}
 use lib.Pow.{pow-pos}
+use Rattle.masks.specs.Bit.{bit}
 use Rattle.masks.proofs.Operations.{full}
 use Rattle.question.specs.Reason.{Agree, Sound, Open, Reason, Forces, Passing, more, openOf, resolved, Setting}
-use Rattle.question.proofs.Agreement.{agree-at, among-by, among-le}
+use Rattle.question.proofs.Agreement.{agree-at, among-at, among-by, among-le}
 use Rattle.question.proofs.Values.{Choice, agrees-fewer}
 use Rattle.question.proofs.Resolution.{without, reason-without, resolved-reason}
 use Rattle.question.proofs.Pairs.{Same}
 
--- a pair that passes with one bit more settled
+-- a bit that is not settled is 0 among the values
+pub no-value : {width : ℕ} {s : Setting} {b : ℕ} → Sound width s → (O : Open width s b) → bit (s .values) (O .k) ≡ 0
+no-value {s = s} ok O = omega (arith, among-at (s .values) (s .bits) (ok .within) (O .k), O .unsettled)
+
+-- a word that passes with one bit more settled
 pub more-passes : {width : ℕ} {s : Setting} {b x : ℕ} → Choice width s b x → (P : ℕ → Bool) (w : ℕ) → Passing width P (more s b x) w
     → Passing width P s w
 more-passes C P w p = record { fits = p .fits; agrees = agrees-fewer C w (p .agrees); true-of = p .true-of }
@@ -23,15 +28,15 @@ more-passes C P w p = record { fits = p .fits; agrees = agrees-fewer C w (p .agr
 -- ---- a forced bit
 abbrev pub forced : {width : ℕ} {P : ℕ → Bool} {s : Setting} {reason b value : ℕ} → Sound width s → Forces width P s reason b value
     → Choice width s b value
-forced ok F = record { sound = ok; free = F .free; either = F .either }
+forced ok F = record { free = F .free; empty = no-value ok (F .free); either = F .either }
 
 -- ---- a tried bit
 module _ {width : ℕ} {s : Setting} {b : ℕ} (ok : Sound width s) (O : Open width s b) where
   abbrev pub at-zero : Choice width s b 0
-  at-zero = record { sound = ok; free = O; either = inl refl }
+  at-zero = record { free = O; empty = no-value ok O; either = inl refl }
 
   abbrev pub at-one : Choice width s b b
-  at-one = record { sound = ok; free = O; either = inr refl }
+  at-one = record { free = O; empty = no-value ok O; either = inr refl }
 
   -- the bit is no part of the reason
   pub zero-enough : (P : ℕ → Bool) (a : ℕ) → Reason P (more s b 0) a → bitAnd a b ≡ 0 → Reason P s a
@@ -41,7 +46,7 @@ module _ {width : ℕ} {s : Setting} {b : ℕ} (ok : Sound width s) (O : Open wi
   pub both-fail : (P : ℕ → Bool) (y z : ℕ) → Reason P (more s b b) y → Reason P (more s b 0) z → Reason P s (resolved width y z b)
   both-fail P y z ry rz =
       let e : b - b ≡ 0 = omega arith in
-      resolved-reason at-one P y z ry (rw e rz)
+      resolved-reason ok at-one P y z ry (rw e rz)
 
 -- not all bits are settled: one is open
 pub some-open : (width : ℕ) (s : Setting) → s .bits < 2 ^ width - 1 → 0 < openOf width (2 ^ width - 1) s

@@ -91,8 +91,8 @@ module _ {width : ℕ} {P : ℕ → Bool} {front : ℕ} {s : Setting} {pair b : 
   pub descends-zero : (w : ℕ) → Passing width P (more s b 0) w → Descends width P front s (more s b 0) w
   descends-zero w p =
       record {
-        stands = record { sound = more-sound with-zero; pair = p };
-        falls = more-falls with-zero;
+        stands = record { sound = more-sound with-zero (D .sound); word = p };
+        falls = more-falls with-zero (D .sound);
         keeps = record {
           narrower = agrees-fewer with-zero;
           kept = λ t e g. ⊎-elim (λ z. inl (more-zero t g z)) (λ o. inr (λ x a. above t x g o a)) (bit-cases t k);
@@ -114,14 +114,14 @@ module _ {width : ℕ} {P : ℕ → Bool} {front : ℕ} {s : Setting} {pair b : 
   descends-one m r f =
       record {
         stands = record {
-          sound = more-sound with-one;
-          pair = record {
-            fits = D .pair .fits;
-            agrees = more-one pair (D .pair .agrees) (λ z. f (rw (T .free .is) (and-pow pair k .1 z)));
-            true-of = D .pair .true-of;
+          sound = more-sound with-one (D .sound);
+          word = record {
+            fits = D .word .fits;
+            agrees = more-one word (D .word .agrees) (λ z. f (rw (T .free .is) (and-pow word k .1 z)));
+            true-of = D .word .true-of;
           };
         };
-        falls = more-falls with-one;
+        falls = more-falls with-one (D .sound);
         keeps = record {
           narrower = agrees-fewer with-one;
           kept = λ t e g. inl (more-one t g (λ z. clash e (fails t (more-zero t g z))));
@@ -129,7 +129,7 @@ module _ {width : ℕ} {P : ℕ → Bool} {front : ℕ} {s : Setting} {pair b : 
       }
     where
       more-one : (w : ℕ) → Agrees s w → (bit w k ≡ 0 → ⊥) → Agrees (more s b b) w
-      more-one w g h = agrees-more with-one w g (⊎-elim (λ z. absurd (h z)) (λ o. o ∙ sym (b-here with-one)) (bit-cases w k))
+      more-one w g h = agrees-more with-one w g (⊎-elim (λ z. absurd (h z)) (λ o. o ∙ sym (b-here (T .free))) (bit-cases w k))
 
       fails : (t : ℕ) → Agrees (more s b 0) t → P t ≡ false
       fails t g = r .why t (agree-among m (bitOr (s .bits) b) t (bitOr (s .values) 0) (r .among) g)

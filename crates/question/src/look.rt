@@ -7,7 +7,7 @@ ghost use lib.ListN.{getD};
 ghost use Rattle.system.specs.System.{clauseTrue, listTrue};
 ghost use Rattle.question.specs.Question.{excluded};
 ghost use Rattle.question.specs.Condition.{stateOf, allowed, lent, fulfils};
-ghost use Rattle.question.specs.Engine.{Valid, Scanned};
+ghost use Rattle.question.specs.Engine.{Scanned};
 
 // Settled bits, and their values. The values are within the bits: a bit that is open is 0 among them.
 pub(crate) struct Settled {
@@ -36,7 +36,6 @@ pub(crate) const STATE: u64 = 0xFFFF_FFFF;
 
 // One clause against the settled bits: true, or failed, or with one open bit, or none of these yet.
 fn clause(c: Clause, s: Settled, next: usize) -> Look
-    requires { ⌜ Valid s ⌝ }
     ensures { λ r. ⌜ Scanned (clauseTrue (c .ones) (c .zeros)) s r ⌝ }
 {
     let Clause { ones, zeros } = c;
@@ -70,7 +69,6 @@ fn clause(c: Clause, s: Settled, next: usize) -> Look
 
 // The clauses of a list, once round from the clause `at` on.
 fn scan(list: &[u64], at: usize, s: Settled) -> Look
-    requires { ⌜ Valid s ⌝ }
     ensures { λ r. ⌜ Scanned (listTrue (now (list .entry))) s r ⌝ }
 {
     let count = list.len() / 2;
@@ -93,7 +91,6 @@ fn scan(list: &[u64], at: usize, s: Settled) -> Look
 
 // The clauses of a list that speaks of the state alone: the later half counts as settled to 0, and is no part of a reason.
 fn scan_low(list: &[u64], s: Settled, next: usize) -> Look
-    requires { ⌜ Valid s ⌝ }
     ensures { λ r. ⌜ Scanned (λ w. listTrue (now (list .entry)) (stateOf w)) s r ⌝ }
 {
     let Settled { bits, values } = s;
@@ -147,7 +144,6 @@ pub(crate) fn is_excluded(states: &[u64], levels: &[u32], i: u32, s: u64) -> boo
 
 // The excluded states. Each is a clause that some bit of the state differs; it uses all of them, so it says nothing while two are open.
 fn scan_states(states: &[u64], levels: &[u32], i: u32, s: Settled, next: usize) -> Look
-    requires { ⌜ Valid s ⌝ }
     ensures { λ r. ⌜ Scanned (allowed (now (states .entry)) (now (levels .entry)) i) s r ⌝ }
 {
     let Settled { bits, values: _ } = s;
@@ -188,7 +184,6 @@ pub(crate) fn forced(
     s: Settled,
     at: usize,
 ) -> Look
-    requires { ⌜ Valid s ⌝ }
     ensures { λ r. ⌜ Scanned (fulfils (lent (low .entry) (whole .entry) (states .entry) (levels .entry) i)) s r ⌝ }
 {
     let look = scan_low(low, s, at);

@@ -18,7 +18,7 @@ settle-requires : tie.Need-settle-requires
 settle-requires c κs =
     let picked = c .before .before in
     let D = picked .before .before .before .before .before .before .pre .stands in
-    rw (c .before .settle-at .ensures) (more-sound (at-zero (D .sound) (picked .top-open .ensures .free)))
+    rw (c .before .settle-at .ensures) (more-sound (at-zero (D .sound) (picked .top-open .ensures .free)) (D .sound))
 
 returns-2 : tie.Need-returns-2
 returns-2 c =

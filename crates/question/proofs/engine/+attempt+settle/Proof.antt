@@ -91,8 +91,9 @@ module _ (t : ℕ) where
 
   attempt-settle-requires : attempt-lts.Need-settle-requires attempt-calls (at μ-attempt attempt.Pre) attempt.Post
   attempt-settle-requires c κs =
-      let f = more-falls (zero (c .before)) in
-      rw (c .settle-at .ensures) (omega (arith, f .one, f .most, begun (c .before) .pre .0), more-sound (zero (c .before)))
+      let ok = begun (c .before) .pre .1 .valid in
+      let f = more-falls (zero (c .before)) ok in
+      rw (c .settle-at .ensures) (omega (arith, f .one, f .most, begun (c .before) .pre .0), more-sound (zero (c .before)) ok)
 
   attempt-returns : attempt-lts.Need-returns attempt-calls (at μ-attempt attempt.Pre) attempt.Post
   attempt-returns c =
@@ -105,8 +106,9 @@ module _ (t : ℕ) where
   attempt-settle-requires-2 : attempt-lts.Need-settle-requires-2 attempt-calls (at μ-attempt attempt.Pre) attempt.Post
   attempt-settle-requires-2 c κs =
       let picked = c .before .before .before .before .before .before .before in
-      let f = more-falls (one picked) in
-      rw (c .settle-at2 .ensures) (omega (arith, f .one, f .most, begun picked .pre .0), more-sound (one picked))
+      let ok = begun picked .pre .1 .valid in
+      let f = more-falls (one picked) ok in
+      rw (c .settle-at2 .ensures) (omega (arith, f .one, f .most, begun picked .pre .0), more-sound (one picked) ok)
 
   attempt-returns-2 : attempt-lts.Need-returns-2 attempt-calls (at μ-attempt attempt.Pre) attempt.Post
   attempt-returns-2 c =
@@ -139,8 +141,8 @@ module _ (t : ℕ) where
       let told = c .before .before in
       let s = told .before .before .before .before .before .before .before in
       let C = forced (s .pre .1) (rw (told .look2 .given .1) at (told .before .before .forced .ensures)) in
-      let f = more-falls C in
-      rw (c .settle-at .ensures) (omega (arith, f .one, f .most, s .pre .0), more-sound C)
+      let f = more-falls C (s .pre .1) in
+      rw (c .settle-at .ensures) (omega (arith, f .one, f .most, s .pre .0), more-sound C (s .pre .1))
 
   settle-returns-2 : settle-lts.Need-returns-2 settle-calls (at μ-settle settle.Pre) settle.Post
   settle-returns-2 c =
@@ -166,7 +168,7 @@ module _ (t : ℕ) where
       let s = told .before .before .before .before .before .before .before in
       let F = rw (told .look2 .given .1) at (told .before .before .forced .ensures) in
       rw (c .resolve .ensures)
-      (resolved-reason (forced (s .pre .1) F) (fulfils _) _ _
+      (resolved-reason (s .pre .1) (forced (s .pre .1) F) (fulfils _) _ _
       (rw (settled .before .settle-at .ensures, failed .f2 .given .1) at (settled .settle .ensures)) (F .fails))
 
   settle-returns-6 : settle-lts.Need-returns-6 settle-calls (at μ-settle settle.Pre) settle.Post

@@ -12,7 +12,7 @@ use Rattle.question.proofs.look.clause.Tie as tie
 
 returns-3 : tie.Need-returns-3
 returns-3 c =
-    clause-fails width _ _ (setting (c .before .before .before .args .s)) (omega arith) (omega arith) (c .before .before .before .pre)
+    clause-fails width _ _ (setting (c .before .before .before .args .s)) (omega arith) (omega arith) (omega arith)
     (c .before .before .if1 .left)
     (c .before .if2 .left)
     (c .if3 .taken)
@@ -30,7 +30,7 @@ returns-6 c =
     let «open» = c .before .before in
     let start = «open» .before .before .before in
     let low = lowest-below width (start .args .c .ones) (start .args .c .zeros) _ (omega arith) (omega arith) («open» .if3 .left) in
-    clause-forces width _ _ (setting (start .args .s)) (omega arith) (omega arith) (start .pre)
+    clause-forces width _ _ (setting (start .args .s)) (omega arith) (omega arith) (omega arith)
     («open» .before .before .if1 .left)
     («open» .before .if2 .left)
     _

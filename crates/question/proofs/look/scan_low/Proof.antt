@@ -4,12 +4,9 @@ use native.Mathlib.Omega.{arith}
 use borrow.Author.Needs.{needs}
 use Rattle.question.specs.Condition.{width}
 use Rattle.question.specs.Engine.{setting}
-use Rattle.question.proofs.Low.{lowered-sound, low-fails, low-forces}
+use Rattle.question.proofs.Low.{low-fails, low-forces}
 use Rattle.question.proofs.look.scan_low.Statement.{statement}
 use Rattle.question.proofs.look.scan_low.Tie as tie
-
-scan-requires : tie.Need-scan-requires
-scan-requires c κs = lowered-sound width 32 (omega arith) (setting (c .before .args .s)) (c .before .pre)
 
 returns-2 : tie.Need-returns-2
 returns-2 c =
@@ -20,13 +17,13 @@ returns-3 : tie.Need-returns-3
 returns-3 c =
     let scanned = c .before .before .before in
     let start = scanned .before .before in
-    low-forces width 32 (omega arith) _ (setting (start .args .s)) _ _ _ (start .pre) (rw (c .before .look2 .given .1) at (scanned .scan .ensures))
+    low-forces width 32 (omega arith) _ (setting (start .args .s)) _ _ _ (rw (c .before .look2 .given .1) at (scanned .scan .ensures))
 
 pub scan-low-spec : {M : Type 1} → statement M
 scan-low-spec =
     tie.close
     (tie.spec
-    scan-requires
+    (λ c κs. search needs)
     (λ c. search needs)
     (λ c. search needs)
     (λ c. search needs)
