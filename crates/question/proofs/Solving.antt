@@ -20,7 +20,7 @@ use Rattle.question.proofs.Pairs.{Same}
 pub no-value : {width : ℕ} {s : Setting} {b : ℕ} → Sound width s → (O : Open width s b) → bit (s .values) (O .k) ≡ 0
 no-value {s = s} ok O = omega (arith, among-at (s .values) (s .bits) (ok .within) (O .k), O .unsettled)
 
--- a word that passes with one bit more settled
+-- a pair that passes with one bit more settled
 pub more-passes : {width : ℕ} {s : Setting} {b x : ℕ} → Choice width s b x → (P : ℕ → Bool) (w : ℕ) → Passing width P (more s b x) w
     → Passing width P s w
 more-passes C P w p = record { fits = p .fits; agrees = agrees-fewer C w (p .agrees); true-of = p .true-of }

@@ -91,7 +91,7 @@ module _ {width : ℕ} {P : ℕ → Bool} {front : ℕ} {s : Setting} {pair b : 
   pub descends-zero : (w : ℕ) → Passing width P (more s b 0) w → Descends width P front s (more s b 0) w
   descends-zero w p =
       record {
-        stands = record { sound = more-sound with-zero (D .sound); word = p };
+        stands = record { sound = more-sound with-zero (D .sound); pair = p };
         falls = more-falls with-zero (D .sound);
         keeps = record {
           narrower = agrees-fewer with-zero;
@@ -115,10 +115,10 @@ module _ {width : ℕ} {P : ℕ → Bool} {front : ℕ} {s : Setting} {pair b : 
       record {
         stands = record {
           sound = more-sound with-one (D .sound);
-          word = record {
-            fits = D .word .fits;
-            agrees = more-one word (D .word .agrees) (λ z. f (rw (T .free .is) (and-pow word k .1 z)));
-            true-of = D .word .true-of;
+          pair = record {
+            fits = D .pair .fits;
+            agrees = more-one pair (D .pair .agrees) (λ z. f (rw (T .free .is) (and-pow pair k .1 z)));
+            true-of = D .pair .true-of;
           };
         };
         falls = more-falls with-one (D .sound);
