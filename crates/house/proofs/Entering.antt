@@ -12,10 +12,10 @@ use Rattle.stores.specs.Lies.{Lies}
 use Rattle.house.specs.File.{on, refuse, roomFor, withClause}
 use Rattle.house.specs.Promise.{Lists, lists, roomsOf}
 use Rattle.house.specs.Lent.{takenAs, PutAs, Lie, readingOf, oneMore, Same, Turns, Enters}
-use Rattle.house.specs.declared.Line.{Line}
-use Rattle.house.specs.declared.Line.the-variants.{Size, Clause, Count, Wrong}
-use Rattle.house.specs.declared.Place.{Place}
-use Rattle.house.specs.declared.Turn.the-variants.{On, Refused}
+use Rattle.house.specs.declared.line.Line.{Line}
+use Rattle.house.specs.declared.line.Line.the-variants.{Size, Clause, Count, Wrong}
+use Rattle.house.specs.declared.enter.Place.{Place}
+use Rattle.house.specs.declared.enter.Turn.the-variants.{On, Refused}
 use Rattle.house.proofs.Lying.{put-room}
 
 -- the stores are as they were

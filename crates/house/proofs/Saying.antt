@@ -10,7 +10,7 @@ use Rattle.text.specs.Lines.{LineAt}
 use Rattle.house.specs.Text.{sum, number}
 use Rattle.house.specs.File.{inPlace, width, lengthFor}
 use Rattle.house.specs.Lent.{byteAt, frameAt, NumberAt, FrameAt, Says}
-use Rattle.house.specs.declared.Line.the-variants.{Size, Clause, Count, Wrong}
+use Rattle.house.specs.declared.line.Line.the-variants.{Size, Clause, Count, Wrong}
 use Rattle.house.proofs.Placing.{length-size, length-count, length-clause}
 use Rattle.house.proofs.Numbers.{frame-size, frame-byte, frame-field}
 use Rattle.house.proofs.Judging.{Makes, says-sum, says-place, says-length, says-size, says-count, says-clause}

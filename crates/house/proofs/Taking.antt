@@ -18,11 +18,11 @@ use Rattle.text.proofs.Lines.{line-at}
 use Rattle.house.specs.File.{Rooms, Reading, Taken, on, refuse, lineTaken, Said, file, refused, readLines, said}
 use Rattle.house.specs.Promise.{Lists, lists, roomsOf, filled, resultOf}
 use Rattle.house.specs.Lent.{Says, Lie, readingOf, Same, Enters, Takes, begun, saidFrom, Stands, Turned, Ended, refusedAt, houseOf, Took}
-use Rattle.house.specs.declared.Line.{Line}
-use Rattle.house.specs.declared.Place.{Place}
+use Rattle.house.specs.declared.line.Line.{Line}
+use Rattle.house.specs.declared.enter.Place.{Place}
 use Rattle.house.specs.declared.Progress.{Progress}
-use Rattle.house.specs.declared.Turn.{Turn}
-use Rattle.house.specs.declared.Turn.the-variants.{On, Refused}
+use Rattle.house.specs.declared.enter.Turn.{Turn}
+use Rattle.house.specs.declared.enter.Turn.the-variants.{On, Refused}
 use Rattle.house.proofs.Limits.{said-limited}
 
 -- ---- a line

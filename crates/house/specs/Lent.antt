@@ -13,12 +13,12 @@ use Rattle.house.specs.Text.{digit, bytes}
 use Rattle.house.specs.File.{Rooms, Reading, Taken, on, refuse, roomFor, withClause, lineTaken, Said, refused, readLines, said}
 use Rattle.house.specs.Promise.{Lists, roomsOf, resultOf}
 use Rattle.house.specs.declared.House.{House}
-use Rattle.house.specs.declared.Line.{Line}
-use Rattle.house.specs.declared.Line.the-variants.{Size, Clause, Count, Wrong}
-use Rattle.house.specs.declared.Place.{Place}
+use Rattle.house.specs.declared.line.Line.{Line}
+use Rattle.house.specs.declared.line.Line.the-variants.{Size, Clause, Count, Wrong}
+use Rattle.house.specs.declared.enter.Place.{Place}
 use Rattle.house.specs.declared.Progress.{Progress}
-use Rattle.house.specs.declared.Turn.{Turn}
-use Rattle.house.specs.declared.Turn.the-variants.{On, Refused}
+use Rattle.house.specs.declared.enter.Turn.{Turn}
+use Rattle.house.specs.declared.enter.Turn.the-variants.{On, Refused}
 
 -- ---- a text by index
 -- the byte that the pair of digits at index i makes

@@ -1,9 +1,9 @@
--- `house::enter` meets its contract: each arm is a case of what a line says. Assumes nothing.
+-- `house::enter::enter` meets its contract: each arm is a case of what a line says. Assumes nothing.
 use native.Mathlib.Omega.{arith}
 use borrow.Author.Needs.{needs}
 use Rattle.house.proofs.Entering.{size-read, count-right, count-wrong, line-wrong}
-use Rattle.house.proofs.enter.Statement.{statement}
-use Rattle.house.proofs.enter.Tie as tie
+use Rattle.house.proofs.enter.enter.Statement.{statement}
+use Rattle.house.proofs.enter.enter.Tie as tie
 
 returns : tie.Need-returns
 returns c =

@@ -1,10 +1,10 @@
--- `house::one_more` meets its contract: each return is a case of the definition. Assumes nothing.
+-- `house::enter::one_more` meets its contract: each return is a case of the definition. Assumes nothing.
 use native.Mathlib.Omega.{arith}
 use borrow.Author.Needs.{needs}
 use borrow.Author.Tests.{not-true, not-false}
 use Rattle.house.proofs.Entering.{more-last, more-full, more-on}
-use Rattle.house.proofs.one_more.Statement.{statement}
-use Rattle.house.proofs.one_more.Tie as tie
+use Rattle.house.proofs.enter.one_more.Statement.{statement}
+use Rattle.house.proofs.enter.one_more.Tie as tie
 
 returns : tie.Need-returns
 returns c = more-last _ _ _ _ _ _ (omega arith)

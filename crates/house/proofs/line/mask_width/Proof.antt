@@ -1,8 +1,8 @@
--- `house::mask_width` meets its contract: it tests what the definition tests. Assumes nothing.
+-- `house::line::mask_width` meets its contract: it tests what the definition tests. Assumes nothing.
 use mathlib.Core.Path.{sym}
 use Rattle.house.proofs.Placing.{width-step, width-other}
-use Rattle.house.proofs.mask_width.Statement.{statement}
-use Rattle.house.proofs.mask_width.Tie as tie
+use Rattle.house.proofs.line.mask_width.Statement.{statement}
+use Rattle.house.proofs.line.mask_width.Tie as tie
 
 returns : tie.Need-returns
 returns c = sym (width-step _ (c .if1 .taken))

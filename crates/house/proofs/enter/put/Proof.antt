@@ -1,10 +1,10 @@
--- `house::put` meets its contract: where there is room for two masks more, they are written behind the list. Assumes nothing.
+-- `house::enter::put` meets its contract: where there is room for two masks more, they are written behind the list. Assumes nothing.
 use native.Mathlib.Omega.{arith}
 use borrow.Author.Needs.{needs}
 use lib.ListN.{length-set}
 use Rattle.house.proofs.Lying.{put-not, put-done}
-use Rattle.house.proofs.put.Statement.{statement}
-use Rattle.house.proofs.put.Tie as tie
+use Rattle.house.proofs.enter.put.Statement.{statement}
+use Rattle.house.proofs.enter.put.Tie as tie
 
 returns : tie.Need-returns
 returns c = put-not _ _ _ _ (omega arith)

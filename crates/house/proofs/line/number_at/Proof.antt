@@ -1,4 +1,4 @@
--- `house::number_at` meets its contract. The loop's invariant: the number so far is that of the first j bytes. With at most seven of them below 256
+-- `house::line::number_at` meets its contract. The loop's invariant: the number so far is that of the first j bytes. With at most seven of them below 256
 -- there is room for one more. The measure is what is left of them. Assumes nothing.
 use Prim.Native.Nat.{_-_, _≤_}
 use mathlib.Core.Path.{_≡_, refl}
@@ -7,8 +7,8 @@ use borrow.Author.Needs.{needs}
 use Rattle.house.specs.Text.{number}
 use Rattle.house.specs.Lent.{frameAt}
 use Rattle.house.proofs.Numbers.{number-more, number-seven}
-use Rattle.house.proofs.number_at.Statement.{statement}
-use Rattle.house.proofs.number_at.Tie as tie
+use Rattle.house.proofs.line.number_at.Statement.{statement}
+use Rattle.house.proofs.line.number_at.Tie as tie
 
 abbrev Inv-loop : tie.InvT-loop
 Inv-loop text at count high₀ j₀ high j = (j ≤ count) × (high ≡ number 0 (frameAt text at j))

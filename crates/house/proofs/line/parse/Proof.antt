@@ -1,4 +1,4 @@
--- `house::parse` meets its contract: its tests are those of the definition, in the order of the refusals, on the frame that is read by index.
+-- `house::line::parse` meets its contract: its tests are those of the definition, in the order of the refusals, on the frame that is read by index.
 -- Assumes nothing.
 use Prim.Native.Nat.{ℕ, _+_, _*_, _≤_}
 use mathlib.Core.Path.{_≡_, refl}
@@ -9,8 +9,8 @@ use Rattle.house.specs.Lent.{NumberAt, Says}
 use Rattle.house.proofs.Placing.{width-most, length-size, length-count, length-clause}
 use Rattle.house.proofs.Numbers.{number-two}
 use Rattle.house.proofs.Saying.{Right, number-within, sum-wrong, place-wrong, length-wrong, right-at, size-said, count-said, clause-said}
-use Rattle.house.proofs.parse.Statement.{statement}
-use Rattle.house.proofs.parse.Tie as tie
+use Rattle.house.proofs.line.parse.Statement.{statement}
+use Rattle.house.proofs.line.parse.Tie as tie
 
 returns : tie.Need-returns
 unfolding Says

@@ -1,4 +1,4 @@
--- `house::sum_of` meets its contract. The loop's invariant: the total is the sum of the first j bytes, each at most 272. The measure is what is left
+-- `house::line::sum_of` meets its contract. The loop's invariant: the total is the sum of the first j bytes, each at most 272. The measure is what is left
 -- of them. Assumes nothing.
 use Prim.Native.Nat.{_-_, _*_, _≤_}
 use mathlib.Core.Path.{_≡_, refl}
@@ -8,8 +8,8 @@ use Rattle.house.specs.Text.{sum}
 use Rattle.house.specs.Lent.{frameAt}
 use Rattle.house.proofs.Digits.{byte-most}
 use Rattle.house.proofs.Numbers.{sum-more}
-use Rattle.house.proofs.sum_of.Statement.{statement}
-use Rattle.house.proofs.sum_of.Tie as tie
+use Rattle.house.proofs.line.sum_of.Statement.{statement}
+use Rattle.house.proofs.line.sum_of.Tie as tie
 
 abbrev Inv-loop : tie.InvT-loop
 Inv-loop text at count total₀ j₀ total j = (j ≤ count) × (total ≤ 272 * j) × (total ≡ sum (frameAt text at j))

@@ -1,8 +1,8 @@
--- `house::take_line` meets its contract: what the line says, by itself, was entered. Assumes nothing.
+-- `house::enter::take_line` meets its contract: what the line says, by itself, was entered. Assumes nothing.
 use borrow.Author.Needs.{needs}
 use Rattle.house.proofs.Taking.{line-entered}
-use Rattle.house.proofs.take_line.Statement.{statement}
-use Rattle.house.proofs.take_line.Tie as tie
+use Rattle.house.proofs.enter.take_line.Statement.{statement}
+use Rattle.house.proofs.enter.take_line.Tie as tie
 
 returns : tie.Need-returns
 returns c =

@@ -1,12 +1,12 @@
--- `house::frame_length` meets its contract: each test that fails tells that the line has not the form. The loop's invariant: the first j bytes are
+-- `house::line::frame_length` meets its contract: each test that fails tells that the line has not the form. The loop's invariant: the first j bytes are
 -- digits. The measure is what is left of the line. Assumes nothing.
 use Prim.Native.Nat.{_-_, _<_}
 use native.Mathlib.Omega.{arith}
 use borrow.Author.Needs.{needs}
 use Rattle.house.proofs.Digits.{AllDigits, digits-more}
 use Rattle.house.proofs.Malformed.{no-frame, a-frame}
-use Rattle.house.proofs.frame_length.Statement.{statement}
-use Rattle.house.proofs.frame_length.Tie as tie
+use Rattle.house.proofs.line.frame_length.Statement.{statement}
+use Rattle.house.proofs.line.frame_length.Tie as tie
 
 abbrev Inv-loop : tie.InvT-loop
 Inv-loop text at len j₀ j = (j < len) × AllDigits text at j

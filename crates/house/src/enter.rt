@@ -1,0 +1,139 @@
+// What was read: the code's record holds counts, and each list is the front of its lent store. A line is parsed and what it says entered: the size,
+// a clause behind its list, or the end. Refused here: 12, clause line number 1,025 or no room; 13, count wrong; and what the line is refused with by
+// itself. Every function that takes stores requires that the lists lie in them with zeros behind, and leaves them so unless it refuses: after a
+// refusal nothing but the stores' lengths is promised, since the reader clears them.
+ghost use mathlib.Core.Path.{_≡_};
+ghost use lib.ListN.{take, drop};
+ghost use Rattle.stores.specs.Lies.{Lies};
+ghost use Rattle.text.specs.Lines.{LineAt};
+ghost use Rattle.house.specs.Promise.{lists};
+ghost use Rattle.house.specs.Lent.{PutAs, Lie, oneMore, Enters, Takes};
+ghost use Rattle.house.specs.declared.line.Line.the-variants.{Clause};
+use super::line::Line;
+use super::line::parse;
+
+// What was read so far: the stage, n, the count of clause lines, and each list's count of masks.
+pub(super) struct Place {
+    pub(super) stage: u32,
+    pub(super) n: u32,
+    pub(super) clauses: u32,
+    pub(super) start: usize,
+    pub(super) step: usize,
+    pub(super) bad: usize,
+}
+
+// Reading goes on, or a refusal.
+pub(super) enum Turn {
+    On(Place),
+    Refused(u32),
+}
+
+// Two masks behind the list in front of the store, if there is room.
+fn put(store: &mut [u64], count: usize, ones: u64, zeros: u64) -> bool
+    requires { ⌜ Lies count (now store) ⌝ }
+    ensures { λ r. ⌜ PutAs (now (store .entry)) count ones zeros r (now (store .exit)) ⌝ }
+{
+    if store.len() < 2 {
+        return false;
+    }
+    if store.len() - 2 < count {
+        return false;
+    }
+    store[count] = ones;
+    store[count + 1] = zeros;
+    true
+}
+
+// A clause more, with these counts of masks. Refusal 12: clause line number 1,025, or no room.
+fn one_more(room: bool, stage: u32, p: Place, start: usize, step: usize, bad: usize) -> Turn
+    ensures { λ r. ⌜ r ≡ oneMore room stage p start step bad ⌝ }
+{
+    if base::MOST_CLAUSE_LINES <= p.clauses {
+        return Turn::Refused(12);
+    }
+    if !room {
+        return Turn::Refused(12);
+    }
+    Turn::On(Place {
+        stage,
+        n: p.n,
+        clauses: p.clauses + 1,
+        start,
+        step,
+        bad,
+    })
+}
+
+// A clause: its list has two masks more.
+fn enter_clause(
+    p: Place,
+    kind: u32,
+    ones: u64,
+    zeros: u64,
+    start: &mut [u64],
+    step: &mut [u64],
+    bad: &mut [u64],
+) -> Turn
+    requires { ⌜ Lie p (lists (now start) (now step) (now bad)) ⌝ }
+    ensures { λ r. ⌜ Enters p (Clause kind ones zeros) (lists (now (start .entry)) (now (step .entry)) (now (bad .entry))) r (lists (now (start .exit)) (now (step .exit)) (now (bad .exit))) ⌝ }
+{
+    if kind == 1 {
+        let room = put(start, p.start, ones, zeros);
+        return one_more(room, 1, p, p.start + 2, p.step, p.bad);
+    }
+    if kind == 2 {
+        let room = put(step, p.step, ones, zeros);
+        return one_more(room, 2, p, p.start, p.step + 2, p.bad);
+    }
+    let room = put(bad, p.bad, ones, zeros);
+    one_more(room, 3, p, p.start, p.step, p.bad + 2)
+}
+
+// What a line says is entered. Refusal 13: count wrong.
+fn enter(p: Place, said: Line, start: &mut [u64], step: &mut [u64], bad: &mut [u64]) -> Turn
+    requires { ⌜ Lie p (lists (now start) (now step) (now bad)) ⌝ }
+    ensures { λ r. ⌜ Enters p said (lists (now (start .entry)) (now (step .entry)) (now (bad .entry))) r (lists (now (start .exit)) (now (step .exit)) (now (bad .exit))) ⌝ }
+{
+    match said {
+        Line::Size(n) => Turn::On(Place {
+            stage: 1,
+            n,
+            clauses: p.clauses,
+            start: p.start,
+            step: p.step,
+            bad: p.bad,
+        }),
+        Line::Clause { kind, ones, zeros } => enter_clause(p, kind, ones, zeros, start, step, bad),
+        Line::Count(count) => {
+            if count != p.clauses {
+                return Turn::Refused(13);
+            }
+            Turn::On(Place {
+                stage: 16,
+                n: p.n,
+                clauses: p.clauses,
+                start: p.start,
+                step: p.step,
+                bad: p.bad,
+            })
+        }
+        Line::Wrong(number) => Turn::Refused(number),
+    }
+}
+
+// The line of `len` bytes at this index, parsed and entered.
+pub(super) fn take_line(
+    text: &[u8],
+    at: usize,
+    len: usize,
+    p: Place,
+    start: &mut [u64],
+    step: &mut [u64],
+    bad: &mut [u64],
+) -> Turn
+    requires { ⌜ (LineAt (now text) at len) × (Lie p (lists (now start) (now step) (now bad))) ⌝ }
+    ensures { λ r. ⌜ Takes p (take len (drop at (now (text .entry)))) (lists (now (start .entry)) (now (step .entry)) (now (bad .entry))) r (lists (now (start .exit)) (now (step .exit)) (now (bad .exit))) ⌝ }
+{
+    let said = parse(text, at, len, p.stage);
+    enter(p, said, start, step, bad)
+}
