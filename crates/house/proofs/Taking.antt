@@ -15,40 +15,41 @@ use Rattle.stores.proofs.Over.{over-same}
 use Rattle.base.proofs.Tests.{eq-or-ne}
 use Rattle.text.specs.Lines.{lines, lineLength, LineAt}
 use Rattle.text.proofs.Lines.{line-at}
-use Rattle.house.specs.File.{Rooms, Reading, Taken, on, refuse, lineTaken, Said, file, refused, readLines, said}
+use Rattle.house.specs.File.{Rooms, on, refuse, lineTaken, Said, file, refused, readLines, said}
+use Rattle.house.specs.File as file
 use Rattle.house.specs.Promise.{Lists, lists, roomsOf, filled, resultOf}
 use Rattle.house.specs.Lent.{Says, Lie, readingOf, Same, Enters, Takes, begun, saidFrom, Stands, Turned, Ended, refusedAt, houseOf, Took}
 use Rattle.house.specs.declared.line.Line.{Line}
-use Rattle.house.specs.declared.enter.Place.{Place}
+use Rattle.house.specs.declared.enter.Reading.{Reading}
 use Rattle.house.specs.declared.Progress.{Progress}
-use Rattle.house.specs.declared.enter.Turn.{Turn}
-use Rattle.house.specs.declared.enter.Turn.the-variants.{On, Refused}
+use Rattle.house.specs.declared.enter.Taken.{Taken}
+use Rattle.house.specs.declared.enter.Taken.the-variants.{On, Refused}
 use Rattle.house.proofs.Limits.{said-limited}
 
 -- ---- a line
 -- what it says was entered, so it was taken
-pub line-entered : (line : List ℕ) (p : Place) (l after : Lists) (said : Line) (t : Turn) → Says line (p .stage) said
-    → Enters p said l t after → Takes p line l t after
+pub line-entered : (line : List ℕ) (r : Reading) (l after : Lists) (said : Line) (t : Taken) → Says line (r .stage) said
+    → Enters r said l t after → Takes r line l t after
 unfolding Says
-line-entered line p l after said t s g = rw (s (roomsOf l) (readingOf p l) refl) g
+line-entered line r l after said t s g = rw (s (roomsOf l) (readingOf r l) refl) g
 
 -- ---- all lines
 -- what is said where a line leads to this
-abbrev following : Rooms → List (List ℕ) → ℕ → Taken → Said
+abbrev following : Rooms → List (List ℕ) → ℕ → file.Taken → Said
 following rooms rest k (on r) = readLines rooms rest (suc k) r
 following rooms rest k (refuse number) = refused number k
 
-read-line : (rooms : Rooms) (line : List ℕ) (rest : List (List ℕ)) (k : ℕ) (r : Reading) (t : Taken) → lineTaken rooms r line ≡ t
+read-line : (rooms : Rooms) (line : List ℕ) (rest : List (List ℕ)) (k : ℕ) (r : file.Reading) (t : file.Taken) → lineTaken rooms r line ≡ t
     → readLines rooms (line ∷ rest) k r ≡ following rooms rest k t
 unfolding readLines
 read-line rooms line rest k r (on r') e = rw (e, readLines)
 read-line rooms line rest k r (refuse number) e = rw (e, readLines)
 
-read-end : (rooms : Rooms) (k : ℕ) (r : Reading) → r .stage ≡ 16 → readLines rooms [] k r ≡ file r
+read-end : (rooms : Rooms) (k : ℕ) (r : file.Reading) → r .stage ≡ 16 → readLines rooms [] k r ≡ file r
 unfolding readLines
 read-end rooms k r e = rw (eq-eqb (r .stage) 16 e, readLines)
 
-read-stop : (rooms : Rooms) (k : ℕ) (r : Reading) → (r .stage ≡ 16 → ⊥) → readLines rooms [] k r ≡ refused 10 k
+read-stop : (rooms : Rooms) (k : ℕ) (r : file.Reading) → (r .stage ≡ 16 → ⊥) → readLines rooms [] k r ≡ refused 10 k
 unfolding readLines
 read-stop rooms k r f = rw (ne-eqb (r .stage) 16 f, readLines)
 
@@ -64,7 +65,7 @@ lists-same l start step bad e f g = rw (← e, ← f, ← g)
 
 -- ---- what the lines that are left say
 from-on : (rest : List (List ℕ)) (s : Progress) (l : Lists) → s .number ≡ 0
-    → saidFrom rest s l ≡ readLines (roomsOf l) rest (s .line) (readingOf (s .place) l)
+    → saidFrom rest s l ≡ readLines (roomsOf l) rest (s .line) (readingOf (s .reading) l)
 unfolding saidFrom
 from-on rest s l e = rw (eq-eqb (s .number) 0 e, saidFrom)
 
@@ -73,7 +74,7 @@ unfolding saidFrom
 from-refused rest s l f = rw (ne-eqb (s .number) 0 f, saidFrom)
 
 -- nothing was read
-pub stands-first : (text : List ℕ) (l : Lists) → Lie (begun text .place) l → Stands text 0 (begun text) l
+pub stands-first : (text : List ℕ) (l : Lists) → Lie (begun text .reading) l → Stands text 0 (begun text) l
 unfolding said
 stands-first text l w =
     record {
@@ -92,16 +93,16 @@ module _ {text : List ℕ} {i : ℕ} {s : Progress} {l : Lists} (w : Stands text
   line-here = let len : end - i ≡ lineLength (drop i text) = omega arith in rw len (line-at text i (w .goes-on e .1))
 
   -- the rest is this line and what follows it
-  first : (t : Taken) → lineTaken (roomsOf l) (readingOf (s .place) l) (take (end - i) (drop i text)) ≡ t
+  first : (t : file.Taken) → lineTaken (roomsOf l) (readingOf (s .reading) l) (take (end - i) (drop i text)) ≡ t
       → following (roomsOf l) (lines (drop end text)) (s .line) t ≡ said (roomsOf l) text
   first t h =
       let to : i + (end - i) ≡ end = omega arith in
-      sym (read-line (roomsOf l) _ _ (s .line) (readingOf (s .place) l) t h)
+      sym (read-line (roomsOf l) _ _ (s .line) (readingOf (s .reading) l) t h)
       ∙ (rw (line-here .first, to) at (sym (from-on (lines (drop i text)) s l (w .goes-on e .0)) ∙ w .rest))
 
   -- a line was taken
-  pub turned-on : {q : Place} {after : Lists} → Takes (s .place) (take (end - i) (drop i text)) l (On q) after
-      → Turned text end l (record { more = ltb end (length text); number = 0; line = s .line + 1; place = q }) after
+  pub turned-on : {q : Reading} {after : Lists} → Takes (s .reading) (take (end - i) (drop i text)) l (On q) after
+      → Turned text end l (record { more = ltb end (length text); number = 0; line = s .line + 1; reading = q }) after
   turned-on {q} {after} t =
       record {
         same = t .same;
@@ -116,8 +117,8 @@ module _ {text : List ℕ} {i : ℕ} {s : Progress} {l : Lists} (w : Stands text
       }
 
   -- a line was refused
-  pub turned-refused : {number : ℕ} {after : Lists} → Takes (s .place) (take (end - i) (drop i text)) l (Refused number) after
-      → Turned text end l (record { more = false; number = number; line = s .line; place = s .place }) after
+  pub turned-refused : {number : ℕ} {after : Lists} → Takes (s .reading) (take (end - i) (drop i text)) l (Refused number) after
+      → Turned text end l (record { more = false; number = number; line = s .line; reading = s .reading }) after
   turned-refused {number} {after} t =
       let h : said (roomsOf l) text ≡ refused number (s .line) = sym (first (refuse number) (sym (t .leads))) in
       let n : 0 < number = rw h at (said-limited (roomsOf l) text) .0 in
@@ -151,14 +152,14 @@ pub house-refused : (s : Progress) → (s .number ≡ 0 → ⊥) → houseOf s �
 unfolding houseOf
 house-refused s f = rw (ne-eqb (s .number) 0 f, houseOf)
 
-pub house-stopped : (s : Progress) → s .number ≡ 0 → (s .place .stage ≡ 16 → ⊥) → houseOf s ≡ refusedAt 10 (s .line)
+pub house-stopped : (s : Progress) → s .number ≡ 0 → (s .reading .stage ≡ 16 → ⊥) → houseOf s ≡ refusedAt 10 (s .line)
 unfolding houseOf
-house-stopped s e f = rw (eq-eqb (s .number) 0 e, ne-eqb (s .place .stage) 16 f, houseOf)
+house-stopped s e f = rw (eq-eqb (s .number) 0 e, ne-eqb (s .reading .stage) 16 f, houseOf)
 
-pub house-file : (s : Progress) → s .number ≡ 0 → s .place .stage ≡ 16
-    → houseOf s ≡ record { number = 0; line = 0; n = s .place .n; start = s .place .start; step = s .place .step; bad = s .place .bad }
+pub house-file : (s : Progress) → s .number ≡ 0 → s .reading .stage ≡ 16
+    → houseOf s ≡ record { number = 0; line = 0; n = s .reading .n; start = s .reading .start; step = s .reading .step; bad = s .reading .bad }
 unfolding houseOf
-house-file s e f = rw (eq-eqb (s .number) 0 e, eq-eqb (s .place .stage) 16 f, houseOf)
+house-file s e f = rw (eq-eqb (s .number) 0 e, eq-eqb (s .reading .stage) 16 f, houseOf)
 
 -- a refusal leaves no list
 took-refused : (text : List ℕ) (before after : Lists) (number line : ℕ) → Same before after → said (roomsOf before) text ≡ refused number line
@@ -172,21 +173,21 @@ module _ (text : List ℕ) (before : Lists) (s : Progress) (after : Lists) (w : 
   whole : saidFrom [] s after ≡ said (roomsOf before) text
   whole = rw (rooms-same before after (w .same)) at (w .rest)
 
-  took-file : s .number ≡ 0 → s .place .stage ≡ 16 → Took text before (houseOf s) after
+  took-file : s .number ≡ 0 → s .reading .stage ≡ 16 → Took text before (houseOf s) after
   unfolding resultOf filled
   took-file z f =
       let v = w .lie z in
-      let p = s .place in
-      let e : said (roomsOf before) text ≡ file (readingOf p after) =
-      sym whole ∙ from-on [] s after z ∙ read-end (roomsOf after) (s .line) (readingOf p after) f in
+      let r = s .reading in
+      let e : said (roomsOf before) text ≡ file (readingOf r after) =
+      sym whole ∙ from-on [] s after z ∙ read-end (roomsOf after) (s .line) (readingOf r after) f in
       rw (house-file s z f)
       (record {
         same = w .same;
         answer = rw e
             (rw (
-              length-take-le (p .start) (after .start) (v .start .fits),
-              length-take-le (p .step) (after .step) (v .step .fits),
-              length-take-le (p .bad) (after .bad) (v .bad .fits),
+              length-take-le (r .start) (after .start) (v .start .fits),
+              length-take-le (r .step) (after .step) (v .step .fits),
+              length-take-le (r .bad) (after .bad) (v .bad .fits),
             ));
         lists = λ _. rw e
             (lists-same after _ _ _ (v .start .rest ∙ over-same _ _ _ (w .same .start))
@@ -200,7 +201,7 @@ module _ (text : List ℕ) (before : Lists) (s : Progress) (after : Lists) (w : 
       (λ z. ⊎-elim (took-file z)
       (λ f. rw (house-stopped s z f)
       (took-refused text before after 10 (s .line) (w .same)
-      (sym whole ∙ from-on [] s after z ∙ read-stop (roomsOf after) (s .line) (readingOf (s .place) after) f)))
-      (eq-or-ne (s .place .stage) 16))
+      (sym whole ∙ from-on [] s after z ∙ read-stop (roomsOf after) (s .line) (readingOf (s .reading) after) f)))
+      (eq-or-ne (s .reading .stage) 16))
       (λ f. rw (house-refused s f) (took-refused text before after (s .number) (s .line) (w .same) (sym whole ∙ from-refused [] s after f)))
       (eq-or-ne (s .number) 0)

@@ -10,15 +10,16 @@ use Rattle.base.specs.Refusals.{mostClauseLines}
 use Rattle.stores.specs.Lies.{Lies}
 use Rattle.text.specs.Lines.{lines}
 use Rattle.house.specs.Text.{digit, bytes}
-use Rattle.house.specs.File.{Rooms, Reading, Taken, on, refuse, roomFor, withClause, lineTaken, Said, refused, readLines, said}
+use Rattle.house.specs.File.{Rooms, on, refuse, roomFor, withClause, lineTaken, Said, refused, readLines, said}
+use Rattle.house.specs.File as file
 use Rattle.house.specs.Promise.{Lists, roomsOf, resultOf}
 use Rattle.house.specs.declared.House.{House}
 use Rattle.house.specs.declared.line.Line.{Line}
 use Rattle.house.specs.declared.line.Line.the-variants.{Size, Clause, Count, Wrong}
-use Rattle.house.specs.declared.enter.Place.{Place}
+use Rattle.house.specs.declared.enter.Reading.{Reading}
 use Rattle.house.specs.declared.Progress.{Progress}
-use Rattle.house.specs.declared.enter.Turn.{Turn}
-use Rattle.house.specs.declared.enter.Turn.the-variants.{On, Refused}
+use Rattle.house.specs.declared.enter.Taken.{Taken}
+use Rattle.house.specs.declared.enter.Taken.the-variants.{On, Refused}
 
 -- ---- a text by index
 -- the byte that the pair of digits at index i makes
@@ -42,11 +43,11 @@ pub record FrameAt (text : List ℕ) (i len count : ℕ) : Type 0 where
   pub within : 2 * count ≤ len
   pub small : (j : ℕ) → j < count → byteAt text (i + 2 * j) < 256
   pub frame : 0 < count → bytes (take len (drop i text)) ≡ some (frameAt text i count)
-  pub malformed : count ≡ 0 → (rooms : Rooms) (r : Reading) → lineTaken rooms r (take len (drop i text)) ≡ refuse 8
+  pub malformed : count ≡ 0 → (rooms : Rooms) (r : file.Reading) → lineTaken rooms r (take len (drop i text)) ≡ refuse 8
 
 -- ---- what a line says
 -- where it leads; a clause and the count of the 0F line are judged by what was read
-abbrev pub takenAs : Rooms → Reading → Line → Taken
+abbrev pub takenAs : Rooms → file.Reading → Line → file.Taken
 takenAs rooms r (Size n) = on (record { stage = 1; n = n; clauses = r .clauses; start = r .start; step = r .step; bad = r .bad })
 takenAs rooms r (Clause kind ones zeros) =
     elim (ltb (r .clauses) mostClauseLines && roomFor rooms r kind) [ true ↦ on (withClause r kind (ones ∷ (zeros ∷ []))) | false ↦ refuse 12 ]
@@ -59,7 +60,7 @@ takenAs rooms r (Wrong number) = refuse number
 
 -- the line says this, whatever was read, if the stage is the one given
 unfoldable pub Says : List ℕ → ℕ → Line → Type 0
-Says line stage said = (rooms : Rooms) (r : Reading) → r .stage ≡ stage → lineTaken rooms r line ≡ takenAs rooms r said
+Says line stage said = (rooms : Rooms) (r : file.Reading) → r .stage ≡ stage → lineTaken rooms r line ≡ takenAs rooms r said
 
 -- ---- what was read
 -- two masks more, if there is room
@@ -68,37 +69,37 @@ pub record PutAs (store : List ℕ) (count ones zeros : ℕ) (done : Bool) (stor
   pub same : length store' ≡ length store
   pub more : done ≡ true → (Lies (count + 2) store') × (take (count + 2) store' ≡ take count store ++ (ones ∷ (zeros ∷ [])))
 
-pub record Lie (p : Place) (l : Lists) : Type 0 where
-  pub most : p .clauses ≤ mostClauseLines
-  pub start : Lies (p .start) (l .start)
-  pub step : Lies (p .step) (l .step)
-  pub bad : Lies (p .bad) (l .bad)
+pub record Lie (r : Reading) (l : Lists) : Type 0 where
+  pub most : r .clauses ≤ mostClauseLines
+  pub start : Lies (r .start) (l .start)
+  pub step : Lies (r .step) (l .step)
+  pub bad : Lies (r .bad) (l .bad)
 
-abbrev pub readingOf : Place → Lists → Reading
-readingOf p l =
+abbrev pub readingOf : Reading → Lists → file.Reading
+readingOf r l =
     record {
-      stage = p .stage;
-      n = p .n;
-      clauses = p .clauses;
-      start = take (p .start) (l .start);
-      step = take (p .step) (l .step);
-      bad = take (p .bad) (l .bad);
+      stage = r .stage;
+      n = r .n;
+      clauses = r .clauses;
+      start = take (r .start) (l .start);
+      step = take (r .step) (l .step);
+      bad = take (r .bad) (l .bad);
     }
 
 -- a clause more, with these counts of masks; refusal 12 as in the definition
-unfoldable pub oneMore : Bool → ℕ → Place → ℕ → ℕ → ℕ → Turn
-oneMore room stage p start step bad =
-    elim (ltb (p .clauses) mostClauseLines && room) [
-      | true ↦ On (record { stage = stage; n = p .n; clauses = p .clauses + 1; start = start; step = step; bad = bad })
+unfoldable pub oneMore : Bool → ℕ → Reading → ℕ → ℕ → ℕ → Taken
+oneMore room stage r start step bad =
+    elim (ltb (r .clauses) mostClauseLines && room) [
+      | true ↦ On (record { stage = stage; n = r .n; clauses = r .clauses + 1; start = start; step = step; bad = bad })
       | false ↦ Refused 12
     ]
 
-abbrev pub takenOf : Turn → Lists → Taken
-takenOf (On p) l = on (readingOf p l)
+abbrev pub takenOf : Taken → Lists → file.Taken
+takenOf (On r) l = on (readingOf r l)
 takenOf (Refused number) l = refuse number
 
-abbrev pub Stays : Turn → Lists → Type 0
-Stays (On p) l = Lie p l
+abbrev pub Stays : Taken → Lists → Type 0
+Stays (On r) l = Lie r l
 Stays (Refused number) l = Unit {0}
 
 -- the stores are as long as they were
@@ -107,18 +108,18 @@ pub record Same (before after : Lists) : Type 0 where
   pub step : length (after .step) ≡ length (before .step)
   pub bad : length (after .bad) ≡ length (before .bad)
 
--- a turn: reading went on to where the definition goes, or was refused as there
-pub record Turns (taken : Taken) (before : Lists) (t : Turn) (after : Lists) : Type 0 where
+-- a line leads where the definition does: reading went on to there, or was refused as there
+pub record Leads (taken : file.Taken) (before : Lists) (t : Taken) (after : Lists) : Type 0 where
   pub same : Same before after
   pub leads : takenOf t after ≡ taken
   pub lies : Stays t after
 
 -- what a line says was entered; a line was taken
-abbrev pub Enters : Place → Line → Lists → Turn → Lists → Type 0
-Enters p said before t after = Turns (takenAs (roomsOf before) (readingOf p before) said) before t after
+abbrev pub Enters : Reading → Line → Lists → Taken → Lists → Type 0
+Enters r said before t after = Leads (takenAs (roomsOf before) (readingOf r before) said) before t after
 
-abbrev pub Takes : Place → List ℕ → Lists → Turn → Lists → Type 0
-Takes p line before t after = Turns (lineTaken (roomsOf before) (readingOf p before) line) before t after
+abbrev pub Takes : Reading → List ℕ → Lists → Taken → Lists → Type 0
+Takes r line before t after = Leads (lineTaken (roomsOf before) (readingOf r before) line) before t after
 
 -- ---- line after line
 -- nothing was read
@@ -128,14 +129,14 @@ begun text =
       more = ltb 0 (length text);
       number = 0;
       line = 1;
-      place = record { stage = 0; n = 0; clauses = 0; start = 0; step = 0; bad = 0 };
+      reading = record { stage = 0; n = 0; clauses = 0; start = 0; step = 0; bad = 0 };
     }
 
 -- what the lines that are left say, from where reading stands; after a refusal, that
 unfoldable pub saidFrom : List (List ℕ) → Progress → Lists → Said
 saidFrom rest s l =
     elim (eqb (s .number) 0) [
-      | true ↦ readLines (roomsOf l) rest (s .line) (readingOf (s .place) l)
+      | true ↦ readLines (roomsOf l) rest (s .line) (readingOf (s .reading) l)
       | false ↦ refused (s .number) (s .line)
     ]
 
@@ -143,7 +144,7 @@ saidFrom rest s l =
 pub record Stands (text : List ℕ) (i : ℕ) (s : Progress) (l : Lists) : Type 0 where
   pub within : i ≤ length text
   pub counted : s .line ≤ i + 1
-  pub lie : s .number ≡ 0 → Lie (s .place) l
+  pub lie : s .number ≡ 0 → Lie (s .reading) l
   pub rest : saidFrom (lines (drop i text)) s l ≡ said (roomsOf l) text
   pub goes-on : s .more ≡ true → (s .number ≡ 0) × (i < length text)
   pub stops : s .more ≡ false → s .number ≡ 0 → length text ≤ i
@@ -156,7 +157,7 @@ pub record Turned (text : List ℕ) (i : ℕ) (before : Lists) (s : Progress) (a
 -- no line is left
 pub record Ended (text : List ℕ) (before : Lists) (s : Progress) (after : Lists) : Type 0 where
   pub same : Same before after
-  pub lie : s .number ≡ 0 → Lie (s .place) after
+  pub lie : s .number ≡ 0 → Lie (s .reading) after
   pub rest : saidFrom [] s after ≡ said (roomsOf after) text
 
 -- a refusal and its line
@@ -167,14 +168,14 @@ refusedAt number line = record { number = number; line = line; n = 0; start = 0;
 unfoldable pub houseOf : Progress → House
 houseOf s =
     elim (eqb (s .number) 0) [
-      | true ↦ elim (eqb (s .place .stage) 16) [
+      | true ↦ elim (eqb (s .reading .stage) 16) [
         | true ↦ record {
           number = 0;
           line = 0;
-          n = s .place .n;
-          start = s .place .start;
-          step = s .place .step;
-          bad = s .place .bad;
+          n = s .reading .n;
+          start = s .reading .start;
+          step = s .reading .step;
+          bad = s .reading .bad;
         }
         | false ↦ refusedAt 10 (s .line)
       ]

@@ -13,7 +13,7 @@ use super::line::Line;
 use super::line::parse;
 
 // What was read so far: the stage, n, the count of clause lines, and each list's count of masks.
-pub(super) struct Place {
+pub(super) struct Reading {
     pub(super) stage: u32,
     pub(super) n: u32,
     pub(super) clauses: u32,
@@ -23,8 +23,8 @@ pub(super) struct Place {
 }
 
 // Reading goes on, or a refusal.
-pub(super) enum Turn {
-    On(Place),
+pub(super) enum Taken {
+    On(Reading),
     Refused(u32),
 }
 
@@ -45,19 +45,19 @@ fn put(store: &mut [u64], count: usize, ones: u64, zeros: u64) -> bool
 }
 
 // A clause more, with these counts of masks. Refusal 12: clause line number 1,025, or no room.
-fn one_more(room: bool, stage: u32, p: Place, start: usize, step: usize, bad: usize) -> Turn
-    ensures { λ r. ⌜ r ≡ oneMore room stage p start step bad ⌝ }
+fn one_more(room: bool, stage: u32, r: Reading, start: usize, step: usize, bad: usize) -> Taken
+    ensures { λ t. ⌜ t ≡ oneMore room stage r start step bad ⌝ }
 {
-    if base::MOST_CLAUSE_LINES <= p.clauses {
-        return Turn::Refused(12);
+    if base::MOST_CLAUSE_LINES <= r.clauses {
+        return Taken::Refused(12);
     }
     if !room {
-        return Turn::Refused(12);
+        return Taken::Refused(12);
     }
-    Turn::On(Place {
+    Taken::On(Reading {
         stage,
-        n: p.n,
-        clauses: p.clauses + 1,
+        n: r.n,
+        clauses: r.clauses + 1,
         start,
         step,
         bad,
@@ -66,58 +66,66 @@ fn one_more(room: bool, stage: u32, p: Place, start: usize, step: usize, bad: us
 
 // A clause: its list has two masks more.
 fn enter_clause(
-    p: Place,
+    r: Reading,
     kind: u32,
     ones: u64,
     zeros: u64,
     start: &mut [u64],
     step: &mut [u64],
     bad: &mut [u64],
-) -> Turn
-    requires { ⌜ Lie p (lists (now start) (now step) (now bad)) ⌝ }
-    ensures { λ r. ⌜ Enters p (Clause kind ones zeros) (lists (now (start .entry)) (now (step .entry)) (now (bad .entry))) r (lists (now (start .exit)) (now (step .exit)) (now (bad .exit))) ⌝ }
+) -> Taken
+    requires { ⌜ Lie r (lists (now start) (now step) (now bad)) ⌝ }
+    ensures { λ t. ⌜
+        Enters r (Clause kind ones zeros)
+        (lists (now (start .entry)) (now (step .entry)) (now (bad .entry)))
+        t (lists (now (start .exit)) (now (step .exit)) (now (bad .exit)))
+        ⌝ }
 {
     if kind == 1 {
-        let room = put(start, p.start, ones, zeros);
-        return one_more(room, 1, p, p.start + 2, p.step, p.bad);
+        let room = put(start, r.start, ones, zeros);
+        return one_more(room, 1, r, r.start + 2, r.step, r.bad);
     }
     if kind == 2 {
-        let room = put(step, p.step, ones, zeros);
-        return one_more(room, 2, p, p.start, p.step + 2, p.bad);
+        let room = put(step, r.step, ones, zeros);
+        return one_more(room, 2, r, r.start, r.step + 2, r.bad);
     }
-    let room = put(bad, p.bad, ones, zeros);
-    one_more(room, 3, p, p.start, p.step, p.bad + 2)
+    let room = put(bad, r.bad, ones, zeros);
+    one_more(room, 3, r, r.start, r.step, r.bad + 2)
 }
 
 // What a line says is entered. Refusal 13: count wrong.
-fn enter(p: Place, said: Line, start: &mut [u64], step: &mut [u64], bad: &mut [u64]) -> Turn
-    requires { ⌜ Lie p (lists (now start) (now step) (now bad)) ⌝ }
-    ensures { λ r. ⌜ Enters p said (lists (now (start .entry)) (now (step .entry)) (now (bad .entry))) r (lists (now (start .exit)) (now (step .exit)) (now (bad .exit))) ⌝ }
+fn enter(r: Reading, said: Line, start: &mut [u64], step: &mut [u64], bad: &mut [u64]) -> Taken
+    requires { ⌜ Lie r (lists (now start) (now step) (now bad)) ⌝ }
+    ensures { λ t. ⌜
+        Enters r said
+        (lists (now (start .entry)) (now (step .entry)) (now (bad .entry)))
+        t (lists (now (start .exit)) (now (step .exit)) (now (bad .exit)))
+        ⌝ }
 {
     match said {
-        Line::Size(n) => Turn::On(Place {
+        Line::Size(n) => Taken::On(Reading {
             stage: 1,
             n,
-            clauses: p.clauses,
-            start: p.start,
-            step: p.step,
-            bad: p.bad,
+            clauses: r.clauses,
+            start: r.start,
+            step: r.step,
+            bad: r.bad,
         }),
-        Line::Clause { kind, ones, zeros } => enter_clause(p, kind, ones, zeros, start, step, bad),
+        Line::Clause { kind, ones, zeros } => enter_clause(r, kind, ones, zeros, start, step, bad),
         Line::Count(count) => {
-            if count != p.clauses {
-                return Turn::Refused(13);
+            if count != r.clauses {
+                return Taken::Refused(13);
             }
-            Turn::On(Place {
+            Taken::On(Reading {
                 stage: 16,
-                n: p.n,
-                clauses: p.clauses,
-                start: p.start,
-                step: p.step,
-                bad: p.bad,
+                n: r.n,
+                clauses: r.clauses,
+                start: r.start,
+                step: r.step,
+                bad: r.bad,
             })
         }
-        Line::Wrong(number) => Turn::Refused(number),
+        Line::Wrong(number) => Taken::Refused(number),
     }
 }
 
@@ -126,14 +134,18 @@ pub(super) fn take_line(
     text: &[u8],
     at: usize,
     len: usize,
-    p: Place,
+    r: Reading,
     start: &mut [u64],
     step: &mut [u64],
     bad: &mut [u64],
-) -> Turn
-    requires { ⌜ (LineAt (now text) at len) × (Lie p (lists (now start) (now step) (now bad))) ⌝ }
-    ensures { λ r. ⌜ Takes p (take len (drop at (now (text .entry)))) (lists (now (start .entry)) (now (step .entry)) (now (bad .entry))) r (lists (now (start .exit)) (now (step .exit)) (now (bad .exit))) ⌝ }
+) -> Taken
+    requires { ⌜ (LineAt (now text) at len) × (Lie r (lists (now start) (now step) (now bad))) ⌝ }
+    ensures { λ t. ⌜
+        Takes r (take len (drop at (now (text .entry))))
+        (lists (now (start .entry)) (now (step .entry)) (now (bad .entry)))
+        t (lists (now (start .exit)) (now (step .exit)) (now (bad .exit)))
+        ⌝ }
 {
-    let said = parse(text, at, len, p.stage);
-    enter(p, said, start, step, bad)
+    let said = parse(text, at, len, r.stage);
+    enter(r, said, start, step, bad)
 }

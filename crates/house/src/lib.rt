@@ -13,8 +13,8 @@ ghost use lib.ListN.{drop};
 ghost use Rattle.text.specs.Lines.{lineLength};
 ghost use Rattle.house.specs.Promise.{lists, filled, Reads};
 ghost use Rattle.house.specs.Lent.{Lie, begun, Stands, Turned, Ended, refusedAt, houseOf, Took};
-use enter::Place;
-use enter::Turn;
+use enter::Reading;
+use enter::Taken;
 use enter::take_line;
 
 // With the number 0, n and the counts of masks; with a refusal, its line, and all else 0.
@@ -32,7 +32,7 @@ struct Progress {
     more: bool,
     number: u32,
     line: usize,
-    place: Place,
+    reading: Reading,
 }
 
 // The line from this index to its end, taken; a refusal ends the reading.
@@ -46,22 +46,26 @@ fn take_turn(
     bad: &mut [u64],
 ) -> Progress
     requires { ⌜ (Stands (now text) at s (lists (now start) (now step) (now bad))) × (s .more ≡ true) × (end ≡ at + lineLength (drop at (now text))) ⌝ }
-    ensures { λ r. ⌜ Turned (now (text .entry)) end (lists (now (start .entry)) (now (step .entry)) (now (bad .entry))) r (lists (now (start .exit)) (now (step .exit)) (now (bad .exit))) ⌝ }
+    ensures { λ r. ⌜
+        Turned (now (text .entry)) end
+        (lists (now (start .entry)) (now (step .entry)) (now (bad .entry)))
+        r (lists (now (start .exit)) (now (step .exit)) (now (bad .exit)))
+        ⌝ }
 {
-    let p = s.place;
-    let t = take_line(text, at, end - at, p, start, step, bad);
+    let r = s.reading;
+    let t = take_line(text, at, end - at, r, start, step, bad);
     match t {
-        Turn::On(q) => Progress {
+        Taken::On(q) => Progress {
             more: end < text.len(),
             number: 0,
             line: s.line + 1,
-            place: q,
+            reading: q,
         },
-        Turn::Refused(number) => Progress {
+        Taken::Refused(number) => Progress {
             more: false,
             number,
             line: s.line,
-            place: p,
+            reading: r,
         },
     }
 }
@@ -75,7 +79,11 @@ fn take_lines(
     bad: &mut [u64],
 ) -> Progress
     requires { ⌜ Stands (now text) 0 s (lists (now start) (now step) (now bad)) ⌝ }
-    ensures { λ r. ⌜ Ended (now (text .entry)) (lists (now (start .entry)) (now (step .entry)) (now (bad .entry))) r (lists (now (start .exit)) (now (step .exit)) (now (bad .exit))) ⌝ }
+    ensures { λ r. ⌜
+        Ended (now (text .entry))
+        (lists (now (start .entry)) (now (step .entry)) (now (bad .entry)))
+        r (lists (now (start .exit)) (now (step .exit)) (now (bad .exit)))
+        ⌝ }
 {
     let mut r = text::new(text);
     while s.more {
@@ -107,30 +115,34 @@ fn house_of(s: Progress) -> House
     if s.number != 0 {
         return refused_at(s.number, s.line);
     }
-    let p = s.place;
-    if p.stage != 16 {
+    let r = s.reading;
+    if r.stage != 16 {
         return refused_at(10, s.line);
     }
     House {
         number: 0,
         line: 0,
-        n: p.n,
-        start: p.start,
-        step: p.step,
-        bad: p.bad,
+        n: r.n,
+        start: r.start,
+        step: r.step,
+        bad: r.bad,
     }
 }
 
 // All lines of the text, into stores that are all zero.
 fn read_lines(text: &[u8], start: &mut [u64], step: &mut [u64], bad: &mut [u64]) -> House
-    requires { ⌜ Lie (begun (now text) .place) (lists (now start) (now step) (now bad)) ⌝ }
-    ensures { λ r. ⌜ Took (now (text .entry)) (lists (now (start .entry)) (now (step .entry)) (now (bad .entry))) r (lists (now (start .exit)) (now (step .exit)) (now (bad .exit))) ⌝ }
+    requires { ⌜ Lie (begun (now text) .reading) (lists (now start) (now step) (now bad)) ⌝ }
+    ensures { λ r. ⌜
+        Took (now (text .entry))
+        (lists (now (start .entry)) (now (step .entry)) (now (bad .entry)))
+        r (lists (now (start .exit)) (now (step .exit)) (now (bad .exit)))
+        ⌝ }
 {
     let s = Progress {
         more: 0 < text.len(),
         number: 0,
         line: 1,
-        place: Place {
+        reading: Reading {
             stage: 0,
             n: 0,
             clauses: 0,
@@ -153,7 +165,11 @@ fn clear_stores(start: &mut [u64], step: &mut [u64], bad: &mut [u64])
 
 // A house file: its n and lists, or the first refusal and its line. After a refusal the stores are all zero; else all behind each list is zero.
 pub fn read(text: &[u8], start: &mut [u64], step: &mut [u64], bad: &mut [u64]) -> House
-    ensures { λ r. ⌜ Reads (now (text .entry)) (lists (now (start .entry)) (now (step .entry)) (now (bad .entry))) r (lists (now (start .exit)) (now (step .exit)) (now (bad .exit))) ⌝ }
+    ensures { λ r. ⌜
+        Reads (now (text .entry))
+        (lists (now (start .entry)) (now (step .entry)) (now (bad .entry)))
+        r (lists (now (start .exit)) (now (step .exit)) (now (bad .exit)))
+        ⌝ }
 {
     clear_stores(start, step, bad);
     let house = read_lines(text, start, step, bad);

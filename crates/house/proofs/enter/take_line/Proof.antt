@@ -9,7 +9,7 @@ returns c =
     let call = c .before .before .before .before .before .before in
     let said = call .before .before .before .before in
     let start = said .before .before .before .before .before in
-    line-entered _ (start .args .p) _ _ _ _ (said .parse .ensures) (call .enter .ensures)
+    line-entered _ (start .args .r) _ _ _ _ (said .parse .ensures) (call .enter .ensures)
 
 pub take-line-spec : {M : Type 1} → statement M
 take-line-spec =
