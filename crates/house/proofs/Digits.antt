@@ -11,7 +11,7 @@ use lib.Dec.{leb}
 use lib.ListN.{getD}
 use Rattle.base.proofs.Tests.{test, both, eq-or-ne}
 use Rattle.house.specs.Text.{digit}
-use Rattle.house.specs.Lent.{byteAt}
+use Rattle.house.specs.Contracts.{byteAt}
 
 -- a number that is not from a to b
 pub outside : (a b c : ℕ) → (c < a) ⊎ (b < c) → (leb a c && leb c b) ≡ false

@@ -11,7 +11,7 @@ use lib.Dec.{ltb}
 use Rattle.stores.specs.Lies.{Lies}
 use Rattle.house.specs.File.{on, refuse, roomFor, withClause}
 use Rattle.house.specs.Promise.{Lists, lists, roomsOf}
-use Rattle.house.specs.Lent.{takenAs, PutAs, Lie, readingOf, oneMore, Same, Leads, Enters}
+use Rattle.house.specs.Contracts.{takenAs, PutAs, Lie, readingOf, oneMore, Same, Leads, Enters}
 use Rattle.house.specs.declared.line.Line.{Line}
 use Rattle.house.specs.declared.line.Line.the-variants.{Size, Clause, Count, Wrong}
 use Rattle.house.specs.declared.enter.Reading.{Reading}
@@ -79,8 +79,8 @@ module _ {r : Reading} {start step bad : List ℕ} (w : Lie r (lists start step 
       (record {
         found = rw e (put-room start (r .start) ones zeros room start' (w .start) g);
         same = record { start = g .same; step = refl; bad = refl };
-        lie = λ t. (g .more t .0, w .step, w .bad);
-        reading = λ t. rw (e, g .more t .1, add-one);
+        lie = λ t. (g .lies t, w .step, w .bad);
+        reading = λ t. rw (e, g .list t, add-one);
       })
 
   pub step-put : {step' : List ℕ} → kind ≡ 2 → PutAs step (r .step) ones zeros room step'
@@ -91,8 +91,8 @@ module _ {r : Reading} {start step bad : List ℕ} (w : Lie r (lists start step 
       (record {
         found = rw e (put-room step (r .step) ones zeros room step' (w .step) g);
         same = record { start = refl; step = g .same; bad = refl };
-        lie = λ t. (w .start, g .more t .0, w .bad);
-        reading = λ t. rw (e, g .more t .1, add-one);
+        lie = λ t. (w .start, g .lies t, w .bad);
+        reading = λ t. rw (e, g .list t, add-one);
       })
 
   pub bad-put : {bad' : List ℕ} → (kind ≡ 1 → ⊥) → (kind ≡ 2 → ⊥) → PutAs bad (r .bad) ones zeros room bad'
@@ -103,8 +103,8 @@ module _ {r : Reading} {start step bad : List ℕ} (w : Lie r (lists start step 
       (record {
         found = rw (ne-eqb kind 1 e, ne-eqb kind 2 f, roomFor) (put-room bad (r .bad) ones zeros room bad' (w .bad) g);
         same = record { start = refl; step = refl; bad = g .same };
-        lie = λ t. (w .start, w .step, g .more t .0);
-        reading = λ t. rw (ne-eqb kind 1 e, ne-eqb kind 2 f, g .more t .1, add-one, withClause);
+        lie = λ t. (w .start, w .step, g .lies t);
+        reading = λ t. rw (ne-eqb kind 1 e, ne-eqb kind 2 f, g .list t, add-one, withClause);
       })
 
 -- ---- what is no clause

@@ -13,7 +13,7 @@ use lib.Seq.{drop-cons}
 use Rattle.base.proofs.Tests.{test, both}
 use Rattle.base.proofs.Lists.{next-two}
 use Rattle.house.specs.Text.{digit, ahead, bytes}
-use Rattle.house.specs.Lent.{byteAt, frameAt}
+use Rattle.house.specs.Contracts.{byteAt, frameAt}
 use Rattle.house.proofs.Digits.{AllDigits}
 
 -- ---- from a line to its frame

@@ -10,7 +10,7 @@ use borrow.Author.Tests.{le-ltb, eq-eqb, ne-eqb}
 use lib.ListN.{length, getD}
 use Rattle.house.specs.Text.{bytes, sum}
 use Rattle.house.specs.File.{Rooms, Reading, refuse, inPlace, width, lengthFor, field, clauseOf, entered, judged, lineTaken}
-use Rattle.house.specs.Lent.{takenAs, Says}
+use Rattle.house.specs.Contracts.{takenAs, Says}
 use Rattle.house.specs.declared.line.Line.the-variants.{Size, Clause, Count, Wrong}
 
 -- the line makes this frame, whose first byte is the kind

@@ -12,7 +12,7 @@ use Rattle.base.proofs.Tests.{clash}
 use Rattle.stores.specs.Over.{over}
 use Rattle.stores.proofs.Lying.{lies, lies-take}
 use Rattle.house.specs.File.{hasRoom}
-use Rattle.house.specs.Lent.{PutAs}
+use Rattle.house.specs.Contracts.{PutAs}
 
 -- two masks behind a front
 two-more : (front : List ℕ) (k count ones zeros : ℕ) → length front ≡ count
@@ -25,7 +25,7 @@ two-more front k count ones zeros l =
 module _ (store : List ℕ) (count ones zeros : ℕ) where
   -- no room
   pub put-not : length store < count + 2 → PutAs store count ones zeros false store
-  put-not h = record { room = sym (lt-leb (count + 2) (length store) h); same = refl; more = λ e. clash e refl }
+  put-not h = record { room = sym (lt-leb (count + 2) (length store) h); same = refl; lies = λ e. clash e refl; list = λ e. clash e refl }
 
   -- the two masks are written
   pub put-done : Lies count store → count + 2 ≤ length store → PutAs store count ones zeros true (set (set store count ones) (count + 1) zeros)
@@ -43,7 +43,8 @@ module _ (store : List ℕ) (count ones zeros : ℕ) where
       record {
         room = sym (le-leb (count + 2) (length store) h);
         same = simp length-set;
-        more = λ _. (lies front k (count + 2) after e m, lies-take front k (count + 2) after e m);
+        lies = λ _. lies front k (count + 2) after e m;
+        list = λ _. lies-take front k (count + 2) after e m;
       }
 
 -- the definition asks for the same room

@@ -12,7 +12,7 @@ use lib.Seq.{getD-take, getD-drop, length-take-le}
 use Rattle.base.proofs.Tests.{test}
 use Rattle.house.specs.Text.{bytes}
 use Rattle.house.specs.File.{Rooms, Reading, refuse, lineTaken}
-use Rattle.house.specs.Lent.{byteAt, FrameAt}
+use Rattle.house.specs.Contracts.{byteAt, FrameAt}
 use Rattle.house.proofs.Digits.{AllDigits, byte-small}
 use Rattle.house.proofs.Frames.{frame-whole, form}
 

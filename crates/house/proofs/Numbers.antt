@@ -9,7 +9,7 @@ use native.Mathlib.Omega.{arith}
 use lib.ListN.{length, getD, take, drop}
 use Rattle.house.specs.Text.{sum, number}
 use Rattle.house.specs.File.{field}
-use Rattle.house.specs.Lent.{byteAt, frameAt, NumberAt}
+use Rattle.house.specs.Contracts.{byteAt, frameAt, NumberAt}
 
 sum-last : (l : List ℕ) (b : ℕ) → sum (l ++ (b ∷ [])) ≡ sum l + b
 unfolding sum

@@ -9,7 +9,7 @@ use Rattle.stores.proofs.Over.{over-length, over-none}
 use Rattle.stores.specs.Over.{over}
 use Rattle.house.specs.File.{Said, file, refused, said}
 use Rattle.house.specs.Promise.{Lists, lists, roomsOf, filled, Result, resultOf, Reads}
-use Rattle.house.specs.Lent.{Lie, Same, Took}
+use Rattle.house.specs.Contracts.{Lie, Same, Took}
 use Rattle.house.specs.declared.House.{House}
 use Rattle.stores.proofs.Lying.{lies-none}
 use Rattle.house.proofs.Taking.{rooms-same, same-then}

@@ -9,7 +9,7 @@ use lib.ListN.{length, take, drop}
 use Rattle.text.specs.Lines.{LineAt}
 use Rattle.house.specs.Text.{sum, number}
 use Rattle.house.specs.File.{inPlace, width, lengthFor}
-use Rattle.house.specs.Lent.{byteAt, frameAt, NumberAt, FrameAt, Says}
+use Rattle.house.specs.Contracts.{byteAt, frameAt, NumberAt, FrameAt, Says}
 use Rattle.house.specs.declared.line.Line.the-variants.{Size, Clause, Count, Wrong}
 use Rattle.house.proofs.Placing.{length-size, length-count, length-clause}
 use Rattle.house.proofs.Numbers.{frame-size, frame-byte, frame-field}

@@ -12,13 +12,13 @@ use lib.Dec.{ltb}
 use lib.ListN.{length, take, drop, drop-of-length-le}
 use lib.Seq.{length-take-le}
 use Rattle.stores.proofs.Over.{over-same}
-use Rattle.base.proofs.Tests.{eq-or-ne}
+use Rattle.base.proofs.Tests.{eq-or-ne, clash}
 use Rattle.text.specs.Lines.{lines, lineLength, LineAt}
 use Rattle.text.proofs.Lines.{line-at}
 use Rattle.house.specs.File.{Rooms, on, refuse, lineTaken, Said, file, refused, readLines, said}
 use Rattle.house.specs.File as file
 use Rattle.house.specs.Promise.{Lists, lists, roomsOf, filled, resultOf}
-use Rattle.house.specs.Lent.{Says, Lie, readingOf, Same, Enters, Takes, begun, saidFrom, Stands, Turned, Ended, refusedAt, houseOf, Took}
+use Rattle.house.specs.Contracts.{Says, Lie, readingOf, Same, Enters, Takes, begun, saidFrom, Stands, GoesOn, Turned, Ended, refusedAt, houseOf, Took}
 use Rattle.house.specs.declared.line.Line.{Line}
 use Rattle.house.specs.declared.enter.Reading.{Reading}
 use Rattle.house.specs.declared.Progress.{Progress}
@@ -82,15 +82,15 @@ stands-first text l w =
       counted = omega arith;
       lie = λ e. w;
       rest = from-on (lines text) (begun text) l refl;
-      goes-on = λ e. (refl, ltb-true 0 (length text) e);
+      unrefused = λ e. refl;
+      left = ltb-true 0 (length text);
       stops = λ e z. ltb-false 0 (length text) e;
     }
 
-module _ {text : List ℕ} {i : ℕ} {s : Progress} {l : Lists} (w : Stands text i s l) (e : s .more ≡ true)
-    {end : ℕ} (b : end ≡ i + lineLength (drop i text)) where
+module _ {text : List ℕ} {i end : ℕ} {s : Progress} {l : Lists} (w : GoesOn text i end s l) where
   -- the line from i to its end
   pub line-here : LineAt text i (end - i)
-  line-here = let len : end - i ≡ lineLength (drop i text) = omega arith in rw len (line-at text i (w .goes-on e .1))
+  line-here = let len : end - i ≡ lineLength (drop i text) = omega arith in rw len (line-at text i (w .stands .left (w .more)))
 
   -- the rest is this line and what follows it
   first : (t : file.Taken) → lineTaken (roomsOf l) (readingOf (s .reading) l) (take (end - i) (drop i text)) ≡ t
@@ -98,7 +98,7 @@ module _ {text : List ℕ} {i : ℕ} {s : Progress} {l : Lists} (w : Stands text
   first t h =
       let to : i + (end - i) ≡ end = omega arith in
       sym (read-line (roomsOf l) _ _ (s .line) (readingOf (s .reading) l) t h)
-      ∙ (rw (line-here .first, to) at (sym (from-on (lines (drop i text)) s l (w .goes-on e .0)) ∙ w .rest))
+      ∙ (rw (line-here .first, to) at (sym (from-on (lines (drop i text)) s l (w .stands .unrefused (w .more))) ∙ w .stands .rest))
 
   -- a line was taken
   pub turned-on : {q : Reading} {after : Lists} → Takes (s .reading) (take (end - i) (drop i text)) l (On q) after
@@ -108,10 +108,11 @@ module _ {text : List ℕ} {i : ℕ} {s : Progress} {l : Lists} (w : Stands text
         same = t .same;
         stands = record {
           within = omega (arith, line-here .within);
-          counted = omega (arith, line-here .filled, w .counted);
+          counted = omega (arith, line-here .filled, w .stands .counted);
           lie = λ z. t .lies;
           rest = from-on _ _ after refl ∙ rw (rooms-same l after (t .same), add-one) (first (on (readingOf q after)) (sym (t .leads)));
-          goes-on = λ h. (refl, ltb-true end (length text) h);
+          unrefused = λ h. refl;
+          left = ltb-true end (length text);
           stops = λ h z. ltb-false end (length text) h;
         };
       }
@@ -126,10 +127,11 @@ module _ {text : List ℕ} {i : ℕ} {s : Progress} {l : Lists} (w : Stands text
         same = t .same;
         stands = record {
           within = omega (arith, line-here .within);
-          counted = omega (arith, line-here .filled, w .counted);
+          counted = omega (arith, line-here .filled, w .stands .counted);
           lie = λ z. absurd (omega arith);
           rest = from-refused _ _ after (λ z. omega arith) ∙ rw (rooms-same l after (t .same)) (sym h);
-          goes-on = λ z. let x : _≡_ {A = ℕ} 0 1 = cc in absurd (omega arith);
+          unrefused = λ z. clash z refl;
+          left = λ z. clash z refl;
           stops = λ x z. absurd (omega arith);
         };
       }

@@ -1,5 +1,5 @@
--- The root of the definitions.
+-- The root of the definitions. Text, File and Promise say what `read` promises; Contracts says what the private functions need and give.
 pub mod Text
 pub mod File
 pub mod Promise
-pub mod Lent
+pub mod Contracts

@@ -5,9 +5,8 @@
 ghost use mathlib.Core.Path.{_≡_};
 ghost use lib.ListN.{take, drop};
 ghost use Rattle.stores.specs.Lies.{Lies};
-ghost use Rattle.text.specs.Lines.{LineAt};
 ghost use Rattle.house.specs.Promise.{lists};
-ghost use Rattle.house.specs.Lent.{PutAs, Lie, oneMore, Enters, Takes};
+ghost use Rattle.house.specs.Contracts.{PutAs, Lie, Ready, oneMore, Enters, Takes};
 ghost use Rattle.house.specs.declared.line.Line.the-variants.{Clause};
 use super::line::Line;
 use super::line::parse;
@@ -139,7 +138,7 @@ pub(super) fn take_line(
     step: &mut [u64],
     bad: &mut [u64],
 ) -> Taken
-    requires { ⌜ (LineAt (now text) at len) × (Lie r (lists (now start) (now step) (now bad))) ⌝ }
+    requires { ⌜ Ready (now text) at len r (lists (now start) (now step) (now bad)) ⌝ }
     ensures { λ t. ⌜
         Takes r (take len (drop at (now (text .entry))))
         (lists (now (start .entry)) (now (step .entry)) (now (bad .entry)))

@@ -6,13 +6,9 @@ mod enter;
 mod line;
 
 ghost use mathlib.Core.Path.{_≡_};
-ghost use mathlib.Core.Bool.{true};
 ghost use mathlib.Core.List.{[]};
-ghost use Prim.Native.Nat.{_+_};
-ghost use lib.ListN.{drop};
-ghost use Rattle.text.specs.Lines.{lineLength};
 ghost use Rattle.house.specs.Promise.{lists, filled, Reads};
-ghost use Rattle.house.specs.Lent.{Lie, begun, Stands, Turned, Ended, refusedAt, houseOf, Took};
+ghost use Rattle.house.specs.Contracts.{Lie, begun, Stands, GoesOn, Turned, Ended, refusedAt, houseOf, Took};
 use enter::Reading;
 use enter::Taken;
 use enter::take_line;
@@ -45,7 +41,7 @@ fn take_turn(
     step: &mut [u64],
     bad: &mut [u64],
 ) -> Progress
-    requires { ⌜ (Stands (now text) at s (lists (now start) (now step) (now bad))) × (s .more ≡ true) × (end ≡ at + lineLength (drop at (now text))) ⌝ }
+    requires { ⌜ GoesOn (now text) at end s (lists (now start) (now step) (now bad)) ⌝ }
     ensures { λ r. ⌜
         Turned (now (text .entry)) end
         (lists (now (start .entry)) (now (step .entry)) (now (bad .entry)))
@@ -156,7 +152,10 @@ fn read_lines(text: &[u8], start: &mut [u64], step: &mut [u64], bad: &mut [u64])
 
 // All three stores become zero.
 fn clear_stores(start: &mut [u64], step: &mut [u64], bad: &mut [u64])
-    ensures { λ _. ⌜ lists (now (start .exit)) (now (step .exit)) (now (bad .exit)) ≡ filled (lists (now (start .entry)) (now (step .entry)) (now (bad .entry))) [] [] [] ⌝ }
+    ensures { λ _. ⌜
+        lists (now (start .exit)) (now (step .exit)) (now (bad .exit))
+        ≡ filled (lists (now (start .entry)) (now (step .entry)) (now (bad .entry))) [] [] []
+        ⌝ }
 {
     stores::clear(start);
     stores::clear(step);

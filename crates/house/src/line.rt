@@ -3,12 +3,12 @@
 // frame; 9, sum; 10, kind; 11, length. The text is read by index and the frame never built, since there is no memory but what is lent. Every
 // function that reads the text requires that what it reads lies within it, which holds where a line was found.
 ghost use mathlib.Core.Path.{_≡_};
-ghost use Prim.Native.Nat.{_+_, _*_, _≤_, _<_};
+ghost use Prim.Native.Nat.{_+_, _<_};
 ghost use lib.ListN.{length, take, drop};
 ghost use Rattle.text.specs.Lines.{LineAt};
 ghost use Rattle.house.specs.Text.{digit, sum, number};
 ghost use Rattle.house.specs.File.{inPlace, width, lengthFor};
-ghost use Rattle.house.specs.Lent.{byteAt, frameAt, NumberAt, FrameAt, Says};
+ghost use Rattle.house.specs.Contracts.{byteAt, frameAt, SumAt, NumberAt, FrameAt, Says};
 
 // What a line says by itself: the size, a clause, the count of clause lines, or what is wrong with it.
 pub(super) enum Line {
@@ -68,7 +68,7 @@ fn frame_length(text: &[u8], at: usize, len: usize) -> usize
 
 // The sum of a frame's bytes.
 fn sum_of(text: &[u8], at: usize, count: usize) -> u32
-    requires { ⌜ (count ≤ 18) × (at + 2 * count ≤ length (now text)) ⌝ }
+    requires { ⌜ SumAt (now text) at count ⌝ }
     ensures { λ r. ⌜ r ≡ sum (frameAt (now (text .entry)) at count) ⌝ }
 {
     let mut total = 0;

@@ -61,7 +61,7 @@ use Rattle.text.proofs.next_line.Symbol as next-line-def
 use Rattle.text.proofs.next_line.Symbol.{name as #text·next-line}
 use Rattle.text.proofs.next_line.Met as next-line-thm
 use Rattle.house.specs.Promise.{Lists, lists}
-use Rattle.house.specs.Lent.{Same, Stands, Turned}
+use Rattle.house.specs.Contracts.{Same, Stands, Turned}
 use Rattle.house.specs.declared.Progress.{Progress}
 use Rattle.house.proofs.Entering.{same-refl}
 use Rattle.house.proofs.Taking.{same-then, ended}
@@ -133,7 +133,7 @@ module _ (x : RefT (List ℕ)) (before : Lists) where
 
   -- the reader's place moves
   on-less : (t : Turning) → t .s .more ≡ true → end-of x (t .at) ≤ length (now x) → length (now x) - end-of x (t .at) < left t
-  on-less t e h = omega (arith, line-at (now x) (t .at) (t .stands .goes-on e .1) .filled)
+  on-less t e h = omega (arith, line-at (now x) (t .at) (t .stands .left e) .filled)
 
 -- the contract of `take_turn`
 abbrev TakeTurn : {M : Type 1} (𝓤 : URA M) (H : Heap 𝓤) (A : Atoms 𝓤) (mem : Memory → SProp 𝓤) (run : Routine → Fun 𝓤) → Contract 𝓤
@@ -215,7 +215,7 @@ module _ {M : Type 1} (𝓤 : URA M) (H : Heap 𝓤) (A : Atoms 𝓤) (W : Given
         owned ! usize (Is usize) (uint-makes 𝓤 H A W w64) (t .at) _ (refl, fits) $ fjoin ! $ move ! (1 ∷ 0 ∷ []) $ fjoin ! $
         move ! (2 ∷ 0 ∷ []) $ use2 W (raw (TakeTurn 𝓤 H A mem run .pre to-turn))
         (qed W (Lifetimes ∷ ‵ (owns (ShrSlice (named 0) (κs .0) u8 ∷ usize ∷ usize ∷ P.the-row ∷ Slices νs) b passed) ∷ []) ∵
-        says ! (t .stands, e, refl) $ frame ! $ done !) $ done !
+        says ! (record { stands = t .stands; more = e; ends = refl }) $ frame ! $ done !) $ done !
 
     -- the lists that it leaves, and what it says of them and of its result
     abbrev Lasts : Type 0
@@ -259,7 +259,7 @@ module _ {M : Type 1} (𝓤 : URA M) (H : Heap 𝓤) (A : Atoms 𝓤) (W : Given
     fits t = omega (arith, t .stands .within, text-typed W (κs .0) x is-x .1 .0 .fits)
 
     end-fits : (t : Turning x before) → t .s .more ≡ true → end-of x (t .at) < 2 ^ 64
-    end-fits t h = omega (arith, line-at (now x) (t .at) (t .stands .goes-on h .1) .within, text-typed W (κs .0) x is-x .1 .0 .fits)
+    end-fits t h = omega (arith, line-at (now x) (t .at) (t .stands .left h) .within, text-typed W (κs .0) x is-x .1 .0 .fits)
 
     walk : Stands (now x) 0 s₀ before
         → ent 𝓤 (⋆ 𝓤 H A (Having before)) (WpFn 𝓤 H (𝓣 .C) (𝓣 .Λ) code.function (slice x ∷ P′.lowered s₀ ∷ slice x₁ ∷ slice x₂ ∷ slice x₃ ∷ []) Post)

@@ -7,21 +7,21 @@ use Rattle.house.proofs.take_turn.Tie as tie
 take-line-requires : tie.Need-take-line-requires
 take-line-requires c κs =
     let pre = c .before .before .before .before .before .before .before .before .pre in
-    (line-here (pre .0) (pre .1) (pre .2), pre .0 .lie (pre .0 .goes-on (pre .1) .0))
+    record { line = line-here pre; lie = pre .stands .lie (pre .stands .unrefused (pre .more)) }
 
 returns : tie.Need-returns
 returns c =
     let told = c .before .before in
     let call = told .before .before .before .before .before .before .before .before in
     let pre = call .before .before .before .before .before .before .before .before .before .pre in
-    turned-on (pre .0) (pre .1) (pre .2) (rw (told .t .given .1) at (call .take-line .ensures))
+    turned-on pre (rw (told .t .given .1) at (call .take-line .ensures))
 
 returns-2 : tie.Need-returns-2
 returns-2 c =
     let told = c .before in
     let call = told .before .before .before .before .before .before .before .before in
     let pre = call .before .before .before .before .before .before .before .before .before .pre in
-    turned-refused (pre .0) (pre .1) (pre .2) (rw (told .t2 .given .1) at (call .take-line .ensures))
+    turned-refused pre (rw (told .t2 .given .1) at (call .take-line .ensures))
 
 pub take-turn-spec : {M : Type 1} → statement M
 take-turn-spec =

@@ -1,7 +1,7 @@
 -- `house::line::byte_at` meets its contract. A digit has a value of at most 16, so the byte fits. Assumes nothing.
 use native.Mathlib.Omega.{arith}
 use borrow.Author.Needs.{needs}
-use Rattle.house.specs.Lent.{byteAt}
+use Rattle.house.specs.Contracts.{byteAt}
 use Rattle.house.proofs.Digits.{digit-most}
 use Rattle.house.proofs.line.byte_at.Statement.{statement}
 use Rattle.house.proofs.line.byte_at.Tie as tie

@@ -1,5 +1,5 @@
--- `house::line::frame_length` meets its contract: each test that fails tells that the line has not the form. The loop's invariant: the first j bytes are
--- digits. The measure is what is left of the line. Assumes nothing.
+-- `house::line::frame_length` meets its contract: each test that fails tells that the line has not the form. The loop's invariant: the first j bytes
+-- are digits. The measure is what is left of the line. Assumes nothing.
 use Prim.Native.Nat.{_-_, _<_}
 use native.Mathlib.Omega.{arith}
 use borrow.Author.Needs.{needs}

@@ -1,4 +1,5 @@
--- `house::line::length_for` meets its contract: it tests what the definition tests, in the same order. A mask has at most eight bytes. Assumes nothing.
+-- `house::line::length_for` meets its contract: it tests what the definition tests, in the same order. A mask has at most eight bytes.
+-- Assumes nothing.
 use mathlib.Core.Path.{sym}
 use native.Mathlib.Omega.{arith}
 use borrow.Author.Needs.{needs}

@@ -1,11 +1,11 @@
--- `house::line::number_at` meets its contract. The loop's invariant: the number so far is that of the first j bytes. With at most seven of them below 256
--- there is room for one more. The measure is what is left of them. Assumes nothing.
+-- `house::line::number_at` meets its contract. The loop's invariant: the number so far is that of the first j bytes. With at most seven of them below
+-- 256 there is room for one more. The measure is what is left of them. Assumes nothing.
 use Prim.Native.Nat.{_-_, _≤_}
 use mathlib.Core.Path.{_≡_, refl}
 use native.Mathlib.Omega.{arith}
 use borrow.Author.Needs.{needs}
 use Rattle.house.specs.Text.{number}
-use Rattle.house.specs.Lent.{frameAt}
+use Rattle.house.specs.Contracts.{frameAt}
 use Rattle.house.proofs.Numbers.{number-more, number-seven}
 use Rattle.house.proofs.line.number_at.Statement.{statement}
 use Rattle.house.proofs.line.number_at.Tie as tie

@@ -5,7 +5,7 @@ use mathlib.Core.Path.{_≡_, refl}
 use native.Mathlib.Omega.{arith}
 use borrow.Author.Needs.{needs}
 use borrow.Author.Tests.{not-true, not-false}
-use Rattle.house.specs.Lent.{NumberAt, Says}
+use Rattle.house.specs.Contracts.{NumberAt, Says}
 use Rattle.house.proofs.Placing.{width-most, length-size, length-count, length-clause}
 use Rattle.house.proofs.Numbers.{number-two}
 use Rattle.house.proofs.Saying.{Right, number-within, sum-wrong, place-wrong, length-wrong, right-at, size-said, count-said, clause-said}

@@ -1,11 +1,11 @@
--- `house::line::sum_of` meets its contract. The loop's invariant: the total is the sum of the first j bytes, each at most 272. The measure is what is left
--- of them. Assumes nothing.
+-- `house::line::sum_of` meets its contract. The loop's invariant: the total is the sum of the first j bytes, each at most 272. The measure is what is
+-- left of them. Assumes nothing.
 use Prim.Native.Nat.{_-_, _*_, _≤_}
 use mathlib.Core.Path.{_≡_, refl}
 use native.Mathlib.Omega.{arith}
 use borrow.Author.Needs.{needs}
 use Rattle.house.specs.Text.{sum}
-use Rattle.house.specs.Lent.{frameAt}
+use Rattle.house.specs.Contracts.{frameAt}
 use Rattle.house.proofs.Digits.{byte-most}
 use Rattle.house.proofs.Numbers.{sum-more}
 use Rattle.house.proofs.line.sum_of.Statement.{statement}

@@ -1,4 +1,5 @@
--- A text read by index, and what was read out of the code's record and the three lent stores. Each list is the front of its store.
+-- What the private functions require and ensure, with a name for each fact. A text is read by index, and what was read stands in the code's
+-- record and the three lent stores: each list is the front of its store. Nothing here has to be believed: no public promise mentions it.
 use Prim.Native.Nat.{ℕ, zero, suc, _+_, _*_, _≤_, _<_}
 use mathlib.Core.Bool.{Bool, true, false, _&&_}
 use mathlib.Core.List.{List, [], _∷_, _++_}
@@ -8,7 +9,7 @@ use lib.Dec.{eqb, ltb, leb}
 use lib.ListN.{length, getD, take, drop}
 use Rattle.base.specs.Refusals.{mostClauseLines}
 use Rattle.stores.specs.Lies.{Lies}
-use Rattle.text.specs.Lines.{lines}
+use Rattle.text.specs.Lines.{lines, lineLength, LineAt}
 use Rattle.house.specs.Text.{digit, bytes}
 use Rattle.house.specs.File.{Rooms, on, refuse, roomFor, withClause, lineTaken, Said, refused, readLines, said}
 use Rattle.house.specs.File as file
@@ -30,6 +31,11 @@ byteAt text i = 16 * digit (getD text i 0) + digit (getD text (i + 1) 0)
 unfoldable pub frameAt : List ℕ → ℕ → ℕ → List ℕ
 frameAt text i zero = []
 frameAt text i (suc count) = byteAt text i ∷ frameAt text (i + 2) count
+
+-- the bytes of a frame lie within the text from index i on, and there are at most 18: their sum fits 32 bits
+pub record SumAt (text : List ℕ) (i count : ℕ) : Type 0 where
+  pub most : count ≤ 18
+  pub within : i + 2 * count ≤ length text
 
 -- at most eight bytes from index i on, each below 256: their number fits 64 bits
 pub record NumberAt (text : List ℕ) (i count : ℕ) : Type 0 where
@@ -67,7 +73,8 @@ Says line stage said = (rooms : Rooms) (r : file.Reading) → r .stage ≡ stage
 pub record PutAs (store : List ℕ) (count ones zeros : ℕ) (done : Bool) (store' : List ℕ) : Type 0 where
   pub room : done ≡ leb (count + 2) (length store)
   pub same : length store' ≡ length store
-  pub more : done ≡ true → (Lies (count + 2) store') × (take (count + 2) store' ≡ take count store ++ (ones ∷ (zeros ∷ [])))
+  pub lies : done ≡ true → Lies (count + 2) store'
+  pub list : done ≡ true → take (count + 2) store' ≡ take count store ++ (ones ∷ (zeros ∷ []))
 
 pub record Lie (r : Reading) (l : Lists) : Type 0 where
   pub most : r .clauses ≤ mostClauseLines
@@ -85,6 +92,11 @@ readingOf r l =
       step = take (r .step) (l .step);
       bad = take (r .bad) (l .bad);
     }
+
+-- a line lies at index i, and the lists lie in the stores
+pub record Ready (text : List ℕ) (i len : ℕ) (r : Reading) (l : Lists) : Type 0 where
+  pub line : LineAt text i len
+  pub lie : Lie r l
 
 -- a clause more, with these counts of masks; refusal 12 as in the definition
 unfoldable pub oneMore : Bool → ℕ → Reading → ℕ → ℕ → ℕ → Taken
@@ -146,8 +158,15 @@ pub record Stands (text : List ℕ) (i : ℕ) (s : Progress) (l : Lists) : Type 
   pub counted : s .line ≤ i + 1
   pub lie : s .number ≡ 0 → Lie (s .reading) l
   pub rest : saidFrom (lines (drop i text)) s l ≡ said (roomsOf l) text
-  pub goes-on : s .more ≡ true → (s .number ≡ 0) × (i < length text)
+  pub unrefused : s .more ≡ true → s .number ≡ 0
+  pub left : s .more ≡ true → i < length text
   pub stops : s .more ≡ false → s .number ≡ 0 → length text ≤ i
+
+-- there is a line to take, from index i to `end`
+pub record GoesOn (text : List ℕ) (i end : ℕ) (s : Progress) (l : Lists) : Type 0 where
+  pub stands : Stands text i s l
+  pub more : s .more ≡ true
+  pub ends : end ≡ i + lineLength (drop i text)
 
 -- a line was taken, and reading stands behind it
 pub record Turned (text : List ℕ) (i : ℕ) (before : Lists) (s : Progress) (after : Lists) : Type 0 where
