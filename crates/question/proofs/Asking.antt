@@ -18,15 +18,17 @@ use Rattle.masks.proofs.Halves.{bit-low, bit-high, bit-mod, bit-div}
 use Rattle.masks.proofs.Order.{width-bits}
 use Rattle.ic3.specs.Model.{least}
 use Rattle.ic3.proofs.Least.{least-is}
+use Rattle.look.specs.Condition.{width, stateOf, Condition, fulfils}
+use Rattle.look.specs.Reason.{Setting}
+use Rattle.look.proofs.Agreement.{agree-at, agree-by, agree-among, among-by}
 use Rattle.question.specs.Question.{answered}
-use Rattle.question.specs.Condition.{width, stateOf, Condition, fulfils, asked}
-use Rattle.question.specs.Reason.{Setting, Sound, Agrees}
+use Rattle.question.specs.Asked.{asked}
+use Rattle.question.specs.Reason.{Sound, Agrees}
 use Rattle.question.specs.Engine.{LeastFront}
 use Rattle.question.specs.declared.Answer.{Answer}
 use Rattle.question.specs.declared.Answer.the-variants.{State, Nothing}
 use Rattle.question.specs.declared.engine.Found.{Found}
 use Rattle.question.specs.declared.engine.Found.the-variants.{Pair, Nothing}
-use Rattle.question.proofs.Agreement.{agree-at, agree-by, agree-among, among-by}
 
 -- the state of the pair that is found
 abbrev pub onState : Found → Answer

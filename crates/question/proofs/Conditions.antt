@@ -13,8 +13,10 @@ use Rattle.masks.specs.Bit.{somewhere}
 use Rattle.masks.proofs.Halves.{bit-low, bit-high, bit-mod}
 use Rattle.ic3.proofs.Least.{least-same}
 use Rattle.system.specs.System.{listTrue, pair}
-use Rattle.question.specs.Question.{excluded, inside, badIn, stepIn}
-use Rattle.question.specs.Condition.{width, stateOf, allowed, condition, fulfils, asked}
+use Rattle.look.specs.Excluded.{excluded}
+use Rattle.look.specs.Condition.{width, stateOf, allowed, condition, fulfils}
+use Rattle.question.specs.Question.{inside, badIn, stepIn}
+use Rattle.question.specs.Asked.{asked}
 use Rattle.question.proofs.Pairs.{Same, list-same}
 
 module _ (s t : ℕ) (f : s < 2 ^ 32) where

@@ -13,9 +13,10 @@ use Rattle.ic3.specs.Model.{least}
 use Rattle.ic3.specs.Demands.{listed}
 use Rattle.ic3.proofs.Least.{least-same}
 use Rattle.system.specs.System.{listTrue, pair}
-use Rattle.question.specs.Question.{excluded, inside, badIn, stepIn}
+use Rattle.look.specs.Excluded.{excluded}
+use Rattle.look.proofs.States.{excluded-none}
+use Rattle.question.specs.Question.{inside, badIn, stepIn}
 use Rattle.question.proofs.Model.{excluded-first}
-use Rattle.question.proofs.States.{excluded-none}
 
 excluded-listed : (i : ℕ) (xs : List ℕ) (s : ℕ) → excluded i xs [] s ≡ listed xs s
 unfolding listed

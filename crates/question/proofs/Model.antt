@@ -18,7 +18,8 @@ use Rattle.ic3.specs.Search.{levelOf, R, Phase, look, wanted}
 use Rattle.ic3.proofs.Least.{least-same}
 use Rattle.ic3.specs.Shape.{Tidy}
 use Rattle.system.specs.System.{System, model}
-use Rattle.question.specs.Question.{excluded, inside, badIn, stepIn}
+use Rattle.look.specs.Excluded.{excluded}
+use Rattle.question.specs.Question.{inside, badIn, stepIn}
 use Rattle.question.specs.Stored.{stored}
 
 -- the first entry, or a later one; with no level beside it, it has every level

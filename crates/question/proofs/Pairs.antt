@@ -12,7 +12,7 @@ use Rattle.masks.proofs.Halves.{bit-mod}
 use Rattle.masks.proofs.Somewhere.{somewhere-same}
 use Rattle.system.specs.System.{literalTrue, clauseTrue, listTrue}
 use Rattle.system.proofs.Lists.{list-pair}
-use Rattle.question.specs.Condition.{width, stateOf, allowed, Condition, fulfils}
+use Rattle.look.specs.Condition.{width, stateOf, allowed, Condition, fulfils}
 
 -- the pairs w and v have the same bits below the width
 abbrev pub Same : ℕ → ℕ → ℕ → Type 0

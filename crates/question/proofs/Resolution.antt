@@ -15,9 +15,11 @@ use Rattle.masks.specs.Bit.{bit}
 use Rattle.masks.proofs.Bits.{bit-le}
 use Rattle.masks.proofs.Operations.{join, less}
 use Rattle.masks.proofs.OneBit.{and-pow}
-use Rattle.question.specs.Reason.{Agree, Among, Sound, Reason, more, resolved, Setting}
-use Rattle.question.proofs.Agreement.{agree-at, agree-by, among-at, among-by, among-le}
-use Rattle.question.proofs.Values.{Choice, b-here, b-other, b-fits, value-here, value-other, settled-other, other, other-here, more-sound}
+use Rattle.look.specs.Reason.{Agree, Among, Reason, more, Setting}
+use Rattle.look.proofs.Agreement.{agree-at, agree-by, among-at, among-by, among-le}
+use Rattle.look.proofs.Values.{Choice, b-here, b-other, value-here, value-other, other, other-here}
+use Rattle.question.specs.Reason.{Sound, resolved}
+use Rattle.question.proofs.More.{b-fits, settled-other, more-sound}
 
 -- Bit b is open, and x is a value for it; P is the condition.
 module _ {width : ℕ} {s : Setting} {b x : ℕ} (C : Choice width s b x) (P : ℕ → Bool) where

@@ -10,9 +10,11 @@ use lib.Bits.{bitAnd, and-comm, and-mask}
 use lib.Pow.{pow-pos}
 use Rattle.masks.specs.Bit.{bit}
 use Rattle.masks.proofs.Operations.{full}
-use Rattle.question.specs.Reason.{Agree, Sound, Open, Reason, Forces, Passing, more, openOf, resolved, Setting}
-use Rattle.question.proofs.Agreement.{agree-at, among-at, among-by, among-le}
-use Rattle.question.proofs.Values.{Choice, agrees-fewer}
+use Rattle.look.specs.Reason.{Agree, Open, Reason, Forces, more, Setting}
+use Rattle.look.proofs.Agreement.{agree-at, among-at, among-by, among-le}
+use Rattle.look.proofs.Values.{Choice}
+use Rattle.question.specs.Reason.{Sound, Passing, openOf, resolved}
+use Rattle.question.proofs.More.{agrees-fewer}
 use Rattle.question.proofs.Resolution.{without, reason-without, resolved-reason}
 use Rattle.question.proofs.Pairs.{Same}
 

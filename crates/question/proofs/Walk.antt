@@ -18,9 +18,11 @@ use Rattle.masks.proofs.Ends.{highest-end}
 use Rattle.masks.proofs.Operations.{meet, less}
 use Rattle.masks.proofs.OneBit.{and-pow}
 use Rattle.masks.proofs.Order.{bit-order}
-use Rattle.question.specs.Reason.{Agree, Agrees, Among, Sound, Reason, Passing, TopOpen, Stands, Keeps, Descends, LeastWord, more, openOf, Setting}
-use Rattle.question.proofs.Agreement.{agree-at, agree-among, among-by}
-use Rattle.question.proofs.Values.{Choice, b-here, settled-here, value-here, more-sound, more-falls, agrees-fewer, agrees-more}
+use Rattle.look.specs.Reason.{Agree, Among, Reason, more, Setting}
+use Rattle.look.proofs.Agreement.{agree-at, agree-among, among-by}
+use Rattle.look.proofs.Values.{Choice, b-here, value-here}
+use Rattle.question.specs.Reason.{Agrees, Sound, Passing, TopOpen, Stands, Keeps, Descends, LeastWord, openOf}
+use Rattle.question.proofs.More.{settled-here, more-sound, more-falls, agrees-fewer, agrees-more}
 use Rattle.question.proofs.Solving.{at-zero, at-one}
 
 -- ---- the bit at which the walk stands

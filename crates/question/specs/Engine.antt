@@ -1,20 +1,16 @@
 -- What the private contracts say of the code's own types, in terms of Reason. Words have the width of Condition.
 use Prim.Native.Nat.{ℕ, _-_, _^_, _<_}
 use mathlib.Core.Bool.{Bool}
-use Rattle.question.specs.Condition.{width}
-use Rattle.question.specs.Reason.{Setting, Sound, Reason, Forces, Passing, Unfinished, Descends, LeastWord, more}
+use Rattle.look.specs.Condition.{width}
+use Rattle.look.specs.Reason.{Reason, more}
+use Rattle.look.specs.Look.{setting}
+use Rattle.look.specs.declared.Settled.{Settled}
+use Rattle.question.specs.Reason.{Sound, Passing, Unfinished, Descends, LeastWord}
 use Rattle.question.specs.declared.Descent.{Descent}
 use Rattle.question.specs.declared.engine.Found.{Found}
 use Rattle.question.specs.declared.engine.Found.the-variants.{Pair, Nothing}
-use Rattle.question.specs.declared.look.Look.{Look}
-use Rattle.question.specs.declared.look.Look.the-variants.{Rest, Failed, Forced}
-use Rattle.question.specs.declared.look.Settled.{Settled}
 
--- the setting that the code holds
-abbrev pub setting : Settled → Setting
-setting s = record { bits = s .bits; values = s .values }
-
--- its invariant
+-- the invariant of the setting that the code holds
 abbrev pub Valid : Settled → Type 0
 Valid s = Sound width (setting s)
 
@@ -26,12 +22,6 @@ pub record HasOpen (s : Settled) : Type 0 where
 -- one bit more is settled, b at `value`
 abbrev pub settledAt : Settled → ℕ → ℕ → Settled
 settledAt s b value = record { bits = more (setting s) b value .bits; values = more (setting s) b value .values }
-
--- what a look at clauses or excluded states may say
-abbrev pub Scanned : (ℕ → Bool) → Settled → Look → Type 0
-Scanned P s Rest = Unit {0}
-Scanned P s (Failed reason) = Reason P (setting s) reason
-Scanned P s (Forced reason b value next) = Forces width P (setting s) reason b value
 
 -- some pair, or nothing and the settled bits that this rests on
 abbrev pub Solved : (ℕ → Bool) → Settled → Found → Type 0

@@ -1,6 +1,6 @@
 -- The root of the definitions.
 pub mod Question
-pub mod Condition
+pub mod Asked
 pub mod Reason
 pub mod Engine
 pub mod Stored

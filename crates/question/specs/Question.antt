@@ -4,11 +4,9 @@ use Prim.Native.Nat.{ℕ, zero, suc, _^_, min}
 use mathlib.Core.Bool.{Bool, not, _&&_}
 use mathlib.Core.List.{List}
 use mathlib.Core.Option.{Option, none, some}
-use lib.Dec.{leb}
-use lib.ListN.{length, getD}
-use Rattle.masks.specs.Bit.{somewhere}
-use Rattle.ic3.specs.Model.{least, holds}
+use Rattle.ic3.specs.Model.{least}
 use Rattle.system.specs.System.{listTrue, pair}
+use Rattle.look.specs.Excluded.{excluded}
 use Rattle.question.specs.declared.Answer.{Answer}
 use Rattle.question.specs.declared.Answer.the-variants.{State, Nothing}
 
@@ -16,10 +14,6 @@ use Rattle.question.specs.declared.Answer.the-variants.{State, Nothing}
 abbrev pub answered : Answer → Option ℕ
 answered (State s) = some s
 answered Nothing = none
-
--- s is stored with a level of i or more; an entry with no level beside it has every level
-unfoldable pub excluded : ℕ → List ℕ → List ℕ → ℕ → Bool
-excluded i states levels s = somewhere (length states) (λ j. holds (getD states j 0) s && leb i (getD levels j i))
 
 -- R(0) is the set of start states; for i above 0, R(i) is every state except those stored with a level of i or more
 unfoldable pub inside : List ℕ → List ℕ → List ℕ → ℕ → ℕ → Bool

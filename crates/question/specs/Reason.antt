@@ -1,4 +1,4 @@
--- What the engine's laws speak of: pairs of any width, as numbers that are read bit by bit. P is the condition.
+-- What the engine's laws speak of beyond what a look finds: of pairs of any width, as numbers that are read bit by bit. P is the condition.
 use Prim.Native.Nat.{ℕ, _+_, _-_, _^_, _≤_, _<_}
 use mathlib.Core.Bool.{Bool, true, false}
 use mathlib.Core.Logic.{_⊎_}
@@ -7,22 +7,10 @@ use lib.Bits.{bitAnd, bitOr}
 use lib.Count.{ones}
 use lib.Dec.{eqb}
 use Rattle.masks.specs.Bit.{bit}
-
--- the pairs w and v agree on the bits of m
-unfoldable pub Agree : ℕ → ℕ → ℕ → Type 0
-Agree m w v = bitAnd w m ≡ bitAnd v m
-
--- the bits of m are among those of s
-unfoldable pub Among : ℕ → ℕ → Type 0
-Among m s = bitAnd m s ≡ m
+use Rattle.look.specs.Reason.{Agree, Among, Setting, Open}
 
 -- ---- a setting
--- settled bits, and their values
-pub record Setting : Type 0 where
-  pub bits : ℕ
-  pub values : ℕ
-
--- its invariant: the settled bits are positions of a pair, and the values are within them
+-- the invariant: the settled bits are positions of a pair, and the values are within them
 pub record Sound (width : ℕ) (s : Setting) : Type 0 where
   pub fits : s .bits < 2 ^ width
   pub within : Among (s .values) (s .bits)
@@ -31,34 +19,12 @@ pub record Sound (width : ℕ) (s : Setting) : Type 0 where
 abbrev pub Agrees : Setting → ℕ → Type 0
 Agrees s w = Agree (s .bits) w (s .values)
 
--- b is the mask of one position, k, that is open
-pub record Open (width : ℕ) (s : Setting) (b : ℕ) : Type 0 where
-  pub k : ℕ
-  pub low : k < width
-  pub is : b ≡ 2 ^ k
-  pub unsettled : bit (s .bits) k ≡ 0
-
--- one bit more is settled, b at `value`
-abbrev pub more : Setting → ℕ → ℕ → Setting
-more s b value = record { bits = bitOr (s .bits) b; values = bitOr (s .values) value }
-
 -- r has one bit more settled than s
 pub record Falls (width : ℕ) (s r : Setting) : Type 0 where
   pub one : ones (r .bits) ≡ ones (s .bits) + 1
   pub most : ones (r .bits) ≤ width
 
 -- ---- why nothing passes
--- A REASON: settled bits such that no pair that agrees with the values on them passes P
-pub record Reason (P : ℕ → Bool) (s : Setting) (bits : ℕ) : Type 0 where
-  pub among : Among bits (s .bits)
-  pub why : (w : ℕ) → Agree bits w (s .values) → P w ≡ false
-
--- The open bit b is forced to `value`, which is 0 or b: settled at the other value it fails, for `reason`.
-pub record Forces (width : ℕ) (P : ℕ → Bool) (s : Setting) (reason b value : ℕ) : Type 0 where
-  pub free : Open width s b
-  pub either : (value ≡ 0) ⊎ (value ≡ b)
-  pub fails : Reason P (more s b (b - value)) reason
-
 -- the reason that is left when bit b is given up: with its one value `x` failed, and with its other value `y`
 unfoldable pub resolved : ℕ → ℕ → ℕ → ℕ → ℕ
 resolved width x y b = elim (eqb (bitAnd x b) 0) [ true ↦ x | false ↦ bitAnd (bitOr x y) (2 ^ width - 1 - b) ]

@@ -1,15 +1,16 @@
 // The engine: `settle` settles forced bits and `attempt` tries an open one, each by the other. They answer some pair that fulfils the condition, or
 // nothing and the settled bits that this rests on; a tried bit that is not among them is not tried the other way.
-use super::look::HALF;
-use super::look::Look;
-use super::look::Settled;
-use super::look::forced;
-use super::look::is_excluded;
+use look::HALF;
+use look::Look;
+use look::Settled;
+use look::forced;
+use look::is_excluded;
 ghost use mathlib.Core.Path.{_≡_};
 ghost use Prim.Native.Nat.{_<_};
-ghost use Rattle.question.specs.Condition.{width, lent, fulfils};
+ghost use Rattle.look.specs.Condition.{width, lent, fulfils};
+ghost use Rattle.look.specs.Look.{setting};
 ghost use Rattle.question.specs.Reason.{resolved, openOf, TopOpen};
-ghost use Rattle.question.specs.Engine.{setting, Valid, HasOpen, settledAt, Solved};
+ghost use Rattle.question.specs.Engine.{Valid, HasOpen, settledAt, Solved};
 
 // Some pair, or nothing and the settled bits that this rests on.
 pub(crate) enum Found {

@@ -2,9 +2,6 @@
 // one step later in its high half; what is no free bit of the state is settled from the start. The engine finds some pair; a walk above it goes over
 // the bits of a front, today the state's, and ends at a pair whose front is least. Bits outside the front may stay open.
 
-// look is look.rt: what clauses and excluded states say of settled bits.
-mod look;
-
 // engine is engine.rt: some pair, or nothing and why.
 mod engine;
 
@@ -17,8 +14,9 @@ use look::STATE;
 use look::Settled;
 ghost use mathlib.Core.Path.{_≡_};
 ghost use Prim.Native.Nat.{_-_, _^_, min};
+ghost use Rattle.look.specs.Condition.{width, lent, fulfils};
 ghost use Rattle.question.specs.Question.{answered, badIn, stepIn};
-ghost use Rattle.question.specs.Condition.{width, lent, fulfils, asked};
+ghost use Rattle.question.specs.Asked.{asked};
 ghost use Rattle.question.specs.Engine.{Valid, GoesOn, Walks, LeastFront};
 
 // A state, or that none exists.

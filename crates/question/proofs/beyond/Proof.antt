@@ -5,7 +5,7 @@ use native.Mathlib.Omega.{arith}
 use borrow.Author.Needs.{needs}
 use lib.Pow.{pow-pos}
 use Rattle.masks.proofs.OneBit.{shift-one}
-use Rattle.question.specs.Condition.{width}
+use Rattle.look.specs.Condition.{width}
 use Rattle.question.proofs.beyond.Statement.{statement}
 use Rattle.question.proofs.beyond.Tie as tie
 

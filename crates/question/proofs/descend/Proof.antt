@@ -1,7 +1,7 @@
 -- `question::descend` meets its contract: the highest open bit of the front is settled at 0 for a pair that has a 0 there, the one in hand or one
 -- that is found, and at 1 if none is found. Assumes nothing.
 use borrow.Author.Needs.{needs}
-use Rattle.question.proofs.Values.{more-sound}
+use Rattle.question.proofs.More.{more-sound}
 use Rattle.question.proofs.Solving.{at-zero}
 use Rattle.question.proofs.Walk.{descends-zero, in-hand, descends-one}
 use Rattle.question.proofs.descend.Statement.{statement}

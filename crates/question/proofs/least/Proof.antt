@@ -3,8 +3,8 @@
 use Prim.Native.Nat.{_-_}
 use borrow.Author.Needs.{needs}
 use lib.Count.{ones}
-use Rattle.question.specs.Condition.{width, condition, fulfils}
-use Rattle.question.specs.Engine.{setting}
+use Rattle.look.specs.Condition.{width, condition, fulfils}
+use Rattle.look.specs.Look.{setting}
 use Rattle.question.proofs.Walk.{Walked, walked-none, walked-more, walked-all}
 use Rattle.question.proofs.least.Statement.{statement}
 use Rattle.question.proofs.least.Tie as tie

@@ -9,16 +9,17 @@ use borrow.Author.Needs.{needs}
 use borrow.Fn.Kinds.{In}
 use borrow.Fn.PlainCycle.{Measures, is, falls, and}
 use lib.Count.{ones}
-use Rattle.question.specs.Condition.{width, fulfils}
-use Rattle.question.specs.Engine.{setting}
+use Rattle.look.specs.Condition.{width, fulfils}
+use Rattle.look.specs.Look.{setting}
+use Rattle.look.proofs.Values.{Choice}
+use Rattle.look.proofs.forced.Reads as forced
 use Rattle.question.proofs.Pairs.{fulfils-same}
-use Rattle.question.proofs.Values.{Choice, more-sound, more-falls}
+use Rattle.question.proofs.More.{more-sound, more-falls}
 use Rattle.question.proofs.Resolution.{resolved-reason}
 use Rattle.question.proofs.Solving.{more-passes, forced, at-zero, at-one, zero-enough, both-fail, some-open, full-pair, full-nothing}
 use Rattle.question.proofs.engine.attempt.Reads as attempt
 use Rattle.question.proofs.engine.settle.Reads as settle
 use Rattle.question.proofs.engine.settle.Kinds.{ps}
-use Rattle.question.proofs.look.forced.Reads as forced
 use Rattle.question.proofs.engine.fulfilled.Reads as fulfilled
 use Rattle.question.proofs.engine.resolve.Reads as resolve
 use Rattle.question.proofs.engine.settle_at.Reads as settle-at

@@ -3,7 +3,7 @@
 use mathlib.Core.Path.{sym, _∙_}
 use borrow.Author.Tests.{not-true, not-false}
 use borrow.Author.Needs.{needs}
-use Rattle.question.proofs.States.{fulfils-excluded, fulfils-low-false, fulfils-whole}
+use Rattle.question.proofs.Fulfilled.{fulfils-excluded, fulfils-low-false, fulfils-whole}
 use Rattle.question.proofs.engine.fulfilled.Statement.{statement}
 use Rattle.question.proofs.engine.fulfilled.Tie as tie
 

@@ -3,8 +3,8 @@
 use native.Mathlib.Omega.{arith}
 use borrow.Author.Needs.{needs}
 use Rattle.masks.proofs.OneBit.{shift-one}
-use Rattle.question.specs.Condition.{width}
-use Rattle.question.specs.Engine.{setting}
+use Rattle.look.specs.Condition.{width}
+use Rattle.look.specs.Look.{setting}
 use Rattle.question.proofs.Walk.{zeros-below, top-open}
 use Rattle.question.proofs.engine.top_open.Statement.{statement}
 use Rattle.question.proofs.engine.top_open.Tie as tie
