@@ -9,7 +9,7 @@ ghost use Rattle.look.specs.Excluded.{excluded};
 ghost use Rattle.look.specs.Condition.{stateOf, allowed, lent, fulfils};
 ghost use Rattle.look.specs.Look.{Scanned};
 
-// Settled bits, and their values. The values are within the bits: a bit that is open is 0 among them.
+// Settled bits, and their values. What is asked has its values within the bits, a bit that is open being 0 among them; a look takes any two masks.
 pub struct Settled {
     pub bits: u64,
     pub values: u64,
