@@ -6,8 +6,9 @@ use Rattle.ic3.specs.Search.{levelOf, put, states, R, wanted, judge, round, tes
 use Rattle.system.specs.System.{literalTrue, clauseTrue, listTrue, pair, model, wrongSize, wrongCount, wrongBit, refusalOf}
 use Rattle.call.specs.Call.{wrongStores, refused, ended, called}
 use Rattle.text.specs.Lines.{before, lines}
-use Rattle.house.specs.Text.{digit, ahead, bytes, sum, number}
-use Rattle.house.specs.File.{inPlace, width, lengthFor, field, clauseOf, hasRoom, roomFor, withClause, entered, judged, lineTaken, readLines, said}
+use Rattle.line.specs.Text.{digit, ahead, bytes, sum, number}
+use Rattle.line.specs.Says.{inPlace, width, lengthFor, field}
+use Rattle.house.specs.File.{clauseOf, hasRoom, roomFor, withClause, entered, judged, lineTaken, readLines, said}
 use Rattle.answer.specs.Output.{letter, digits, sumByte, lineOf, one, two, four}
 use Rattle.answer.specs.Answer.{stateLines, verdictLines, callLines, scanStores, saidLines, answered}
 use Rattle.answer.specs.Example.{ringFile, ringAnswer}

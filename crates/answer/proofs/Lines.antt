@@ -9,7 +9,7 @@ use lib.ListN.{length, getD, take, length-append}
 use lib.Seq.{take-suc}
 use Rattle.text.proofs.Laying.{writes-then}
 use Rattle.text.specs.Writing.{Writes}
-use Rattle.house.specs.Text.{sum}
+use Rattle.line.specs.Text.{sum}
 use Rattle.answer.specs.Output.{letter, digits, sumByte, lineOf}
 
 -- ---- bytes

@@ -3,7 +3,7 @@ use Prim.Native.Nat.{ℕ, _+_, _-_, _/_, _%_, _^_}
 use mathlib.Core.Bool.{true, false}
 use mathlib.Core.List.{List, [], _∷_, _++_}
 use lib.Dec.{ltb}
-use Rattle.house.specs.Text.{sum}
+use Rattle.line.specs.Text.{sum}
 
 -- the byte of a digit, 0-9 or A-F
 unfoldable pub letter : ℕ → ℕ

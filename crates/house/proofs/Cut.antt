@@ -10,9 +10,9 @@ use lib.Dec.{eqb, ltb}
 use lib.ListN.{length, getD, take}
 use Rattle.base.proofs.Tests.{test}
 use Rattle.text.specs.Lines.{before, lines}
+use Rattle.line.proofs.Frames.{form}
 use Rattle.house.specs.File.{Rooms, Reading, Taken, on, refuse, lineTaken, readLines, nothing, said}
-use Rattle.house.proofs.Frames.{form}
-use Rattle.house.proofs.Malformed.{malformed}
+use Rattle.house.proofs.Saying.{line-malformed}
 use Rattle.house.proofs.Limits.{left, Onward, line-onward}
 
 -- no byte is a line feed
@@ -88,10 +88,10 @@ first-line b (c ∷ bs) =
 module _ (rooms : Rooms) where
   -- lines that are refused with 8
   long-refused : (r : Reading) (l : List ℕ) → 37 < length l → lineTaken rooms r l ≡ refuse 8
-  long-refused r l h = malformed l rooms r (λ frame e a b. omega (arith, form l frame e .size))
+  long-refused r l h = line-malformed rooms r l (λ frame e a b. omega (arith, form l frame e .size))
 
   feedless-refused : (r : Reading) (l : List ℕ) → Feedless l → lineTaken rooms r l ≡ refuse 8
-  feedless-refused r l f = malformed l rooms r (λ frame e a b. f (2 * length frame) (omega (arith, form l frame e .size)) (form l frame e .last))
+  feedless-refused r l f = line-malformed rooms r l (λ frame e a b. f (2 * length frame) (omega (arith, form l frame e .size)) (form l frame e .last))
 
   -- two texts whose first lines are refused, or are one line with rests that say the same
   same-refused : (r : Reading) (k number : ℕ) (l l' : List ℕ) (ls ls' : List (List ℕ)) → lineTaken rooms r l ≡ refuse number

@@ -12,10 +12,11 @@ use lib.Dec.{eqb, ltb, leb}
 use lib.ListN.{length, getD, length-append}
 use Rattle.base.proofs.Tests.{test, clash, both}
 use Rattle.text.specs.Lines.{lines}
-use Rattle.house.specs.Text.{bytes, sum}
-use Rattle.house.specs.File.{Rooms, Reading, Taken, on, refuse, inPlace, lengthFor, field, clauseOf, roomFor, withClause, entered, judged, lineTaken}
+use Rattle.line.specs.Text.{bytes, sum}
+use Rattle.line.specs.Says.{inPlace, lengthFor, field}
+use Rattle.line.proofs.Frames.{form}
+use Rattle.house.specs.File.{Rooms, Reading, Taken, on, refuse, clauseOf, roomFor, withClause, entered, judged, lineTaken}
 use Rattle.house.specs.File.{Said, file, refused, nothing, readLines, said}
-use Rattle.house.proofs.Frames.{form}
 
 -- the 00 line, 1,024 clause lines and the 0F line; from a stage on, those of them that can still come
 unfoldable pub left : Reading → ℕ

@@ -1,84 +1,56 @@
--- What the line at an index says: the frame is read by index, and its kind, its sum, its length and its numbers are those that were computed.
--- Assumes nothing.
-use Prim.Native.Nat.{ℕ, _+_, _*_, _%_, _≤_}
-use mathlib.Core.Bool.{Bool, true, false}
+-- What a line leads to is what it says by itself, entered: the definition's tests of the line are those of `says`, case by case. Assumes nothing.
+use Prim.Native.Nat.{ℕ, _%_, _<_, _≤_}
+use mathlib.Core.Bool.{Bool, true, false, _||_}
 use mathlib.Core.List.{List}
-use mathlib.Core.Path.{_≡_, refl, sym, ap, _∙_}
-use native.Mathlib.Omega.{arith}
-use lib.ListN.{length, take, drop}
-use Rattle.text.specs.Lines.{LineAt}
-use Rattle.house.specs.Text.{sum, number}
-use Rattle.house.specs.File.{inPlace, width, lengthFor}
-use Rattle.house.specs.Contracts.{byteAt, frameAt, NumberAt, FrameAt, Says}
-use Rattle.house.specs.declared.line.Line.the-variants.{Size, Clause, Count, Wrong}
-use Rattle.house.proofs.Placing.{length-size, length-count, length-clause}
-use Rattle.house.proofs.Numbers.{frame-size, frame-byte, frame-field}
-use Rattle.house.proofs.Judging.{Makes, says-sum, says-place, says-length, says-size, says-count, says-clause}
+use mathlib.Core.Option.{Option, none, some}
+use mathlib.Core.Path.{_≡_, refl, ap, _∙_}
+use lib.Dec.{eqb, ltb}
+use lib.ListN.{length, getD}
+use Rattle.line.specs.Text.{bytes, sum}
+use Rattle.line.specs.Says.{inPlace, lengthFor, content, frameSays, says}
+use Rattle.line.specs.declared.Line.{Line}
+use Rattle.line.specs.declared.Line.the-variants.{Wrong}
+use Rattle.line.proofs.Malformed.{malformed}
+use Rattle.house.specs.File.{Rooms, Reading, Taken, refuse, clauseOf, entered, judged, lineTaken}
+use Rattle.house.specs.Contracts.{takenAs}
 
--- a number within the frame
-pub number-within : (text : List ℕ) (i len count : ℕ) → LineAt text i len → FrameAt text i len count
-    → (j k : ℕ) {a : ℕ} → a ≡ i + 2 * j → j + k ≤ count → k ≤ 8 → NumberAt text a k
-number-within text i len count l w j k {a} e h most = record {
-  most = most;
-  within = omega (arith, e, l .within, w .within);
-  small = λ m g.
-      let f : a + 2 * m ≡ i + 2 * (j + m) = omega arith in
-      rw f (w .small (j + m) (omega arith));
-}
+module _ (rooms : Rooms) (r : Reading) where
+  -- by a test: where each of two lines leads
+  when : (b : Bool) (x y : Taken) (s t : Line) → (b ≡ true → x ≡ takenAs rooms r s) → (b ≡ false → y ≡ takenAs rooms r t)
+      → elim b as (λ z. Taken) [ true ↦ x | false ↦ y ] ≡ takenAs rooms r (elim b as (λ z. Line) [ true ↦ s | false ↦ t ])
+  when true x y s t f g = f refl
+  when false x y s t f g = g refl
 
--- a frame whose sum, kind and length are right
-pub record Right (text : List ℕ) (i len count stage kind : ℕ) : Type 0 where
-  pub frame : Makes (take len (drop i text)) (frameAt text i count) kind
-  pub sums : sum (frameAt text i count) % 256 ≡ 0
-  pub place : inPlace stage kind ≡ true
-  pub size : count ≡ lengthFor kind
+  entered-says : (kind : ℕ) (frame : List ℕ) → entered rooms r kind frame ≡ takenAs rooms r (content kind frame)
+  unfolding entered content clauseOf
+  entered-says kind frame = when (eqb kind 0) _ _ _ _ (λ e. refl) (λ e. when (eqb kind 15) _ _ _ _ (λ f. refl) (λ f. refl))
 
-module _ (text : List ℕ) (i len count stage : ℕ) (w : FrameAt text i len count) (filled : count ≡ 0 → ⊥) where
-  makes : (kind : ℕ) → kind ≡ byteAt text i → Makes (take len (drop i text)) (frameAt text i count) kind
-  makes kind k = record {
-    made = w .frame (omega (arith, filled));
-    least = rw (frame-size text count i) (omega (arith, filled));
-    most = rw (frame-size text count i) (w .most);
-    first = frame-byte text count i 0 (omega (arith, filled)) ∙ ap (byteAt text) (omega arith) ∙ sym k;
-  }
+  judged-says : (frame : List ℕ) → judged rooms r frame ≡ takenAs rooms r (frameSays frame (r .stage))
+  unfolding judged frameSays
+  judged-says frame =
+      when (eqb (sum frame % 256) 0) _ _ _ _
+      (λ e. when (inPlace (r .stage) (getD frame 0 0)) _ _ _ _
+      (λ f. when (eqb (length frame) (lengthFor (getD frame 0 0))) _ _ _ _ (λ g. entered-says (getD frame 0 0) frame) (λ g. refl))
+      (λ f. refl))
+      (λ e. refl)
 
-  pub sum-wrong : {t : ℕ} → t ≡ sum (frameAt text i count) → (t % 256 ≡ 0 → ⊥) → Says (take len (drop i text)) stage (Wrong 9)
-  sum-wrong e f =
-      says-sum (take len (drop i text)) (frameAt text i count) stage (byteAt text i) (makes (byteAt text i) refl) (λ g. f (rw e g))
+  pub line-taken : (line : List ℕ) → lineTaken rooms r line ≡ takenAs rooms r (says line (r .stage))
+  unfolding lineTaken says
+  line-taken line = pick (bytes line)
+    where
+      pick : (frame : Option (List ℕ))
+          → elim frame as (λ z. Taken) [
+            | none ↦ refuse 8
+            | some f ↦ elim (eqb (length f) 0 || ltb 18 (length f)) [ true ↦ refuse 8 | false ↦ judged rooms r f ]
+          ]
+          ≡ takenAs rooms r (elim frame as (λ z. Line) [
+            | none ↦ Wrong 8
+            | some f ↦ elim (eqb (length f) 0 || ltb 18 (length f)) [ true ↦ Wrong 8 | false ↦ frameSays f (r .stage) ]
+          ])
+      pick none = refl
+      pick (some f) = when (eqb (length f) 0 || ltb 18 (length f)) _ _ _ _ (λ e. refl) (λ e. judged-says f)
 
-  module _ {t kind : ℕ} (e : t ≡ sum (frameAt text i count)) (right : t % 256 ≡ 0) (k : kind ≡ byteAt text i) where
-    pub place-wrong : {b : Bool} → b ≡ inPlace stage kind → b ≡ false → Says (take len (drop i text)) stage (Wrong 10)
-    place-wrong p f =
-        says-place (take len (drop i text)) (frameAt text i count) stage kind (makes kind k) (rw e at right) (sym p ∙ f)
-
-    module _ {b : Bool} {m : ℕ} (p : b ≡ inPlace stage kind) (place : b ≡ true) (q : m ≡ lengthFor kind) where
-      pub length-wrong : (count ≡ m → ⊥) → Says (take len (drop i text)) stage (Wrong 11)
-      length-wrong f =
-          says-length (take len (drop i text)) (frameAt text i count) stage kind (makes kind k) (rw e at right) (sym p ∙ place)
-          (λ g. f (sym (frame-size text count i) ∙ g ∙ sym q))
-
-      pub right-at : count ≡ m → Right text i len count stage kind
-      right-at f = record { frame = makes kind k; sums = rw e at right; place = sym p ∙ place; size = f ∙ q }
-
-module _ {text : List ℕ} {i len count stage kind : ℕ} (w : Right text i len count stage kind) where
-  size : length (frameAt text i count) ≡ lengthFor kind
-  size = frame-size text count i ∙ w .size
-
-  pub size-said : kind ≡ 0 → {n : ℕ} → n ≡ byteAt text (i + 2) → Says (take len (drop i text)) stage (Size n)
-  size-said e f =
-      rw (f ∙ sym (frame-byte text count i 1 (omega (arith, w .size, length-size kind e))))
-      (says-size (take len (drop i text)) (frameAt text i count) stage kind (w .frame) (w .sums) (w .place) size e)
-
-  pub count-said : kind ≡ 15 → {n : ℕ} → n ≡ number 0 (frameAt text (i + 2) 2) → Says (take len (drop i text)) stage (Count n)
-  count-said e f =
-      rw (f ∙ sym (frame-field text count i 1 2 (omega (arith, w .size, length-count kind e))))
-      (says-count (take len (drop i text)) (frameAt text i count) stage kind (w .frame) (w .sums) (w .place) size e)
-
-  pub clause-said : (kind ≡ 0 → ⊥) → (kind ≡ 15 → ⊥) → {m ones zeros : ℕ} → m ≡ width kind → ones ≡ number 0 (frameAt text (i + 2) m)
-      → zeros ≡ number 0 (frameAt text (i + 2 + 2 * m) m) → Says (take len (drop i text)) stage (Clause kind ones zeros)
-  clause-said e f {m} wide one zero =
-      let long : count ≡ 2 + 2 * m = omega (arith, w .size, length-clause kind e f, wide) in
-      let there : i + 2 + 2 * m ≡ i + 2 * (1 + m) = omega arith in
-      rw (one ∙ sym (frame-field text count i 1 m (omega arith)))
-      (rw (zero ∙ ap (λ x. number 0 (frameAt text x m)) there ∙ sym (frame-field text count i (1 + m) m (omega arith)))
-      (rw wide (says-clause (take len (drop i text)) (frameAt text i count) stage kind (w .frame) (w .sums) (w .place) size e f)))
+  -- a line that makes no frame of 1 to 18 bytes
+  pub line-malformed : (line : List ℕ) → ((frame : List ℕ) → bytes line ≡ some frame → 0 < length frame → length frame ≤ 18 → ⊥)
+      → lineTaken rooms r line ≡ refuse 8
+  line-malformed line never = line-taken line ∙ ap (takenAs rooms r) (malformed line (r .stage) never)

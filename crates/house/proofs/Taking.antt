@@ -15,23 +15,24 @@ use Rattle.stores.proofs.Over.{over-same}
 use Rattle.base.proofs.Tests.{eq-or-ne, clash}
 use Rattle.text.specs.Lines.{lines, lineLength, LineAt}
 use Rattle.text.proofs.Lines.{line-at}
+use Rattle.line.specs.Says.{says}
+use Rattle.line.specs.declared.Line.{Line}
 use Rattle.house.specs.File.{Rooms, on, refuse, lineTaken, Said, file, refused, readLines, said}
 use Rattle.house.specs.File as file
 use Rattle.house.specs.Promise.{Lists, lists, roomsOf, filled, resultOf}
-use Rattle.house.specs.Contracts.{Says, Lie, readingOf, Same, Enters, Takes, begun, saidFrom, Stands, GoesOn, Turned, Ended, refusedAt, houseOf, Took}
-use Rattle.house.specs.declared.line.Line.{Line}
+use Rattle.house.specs.Contracts.{Lie, readingOf, Same, Enters, Takes, begun, saidFrom, Stands, GoesOn, Turned, Ended, refusedAt, houseOf, Took}
 use Rattle.house.specs.declared.enter.Reading.{Reading}
 use Rattle.house.specs.declared.Progress.{Progress}
 use Rattle.house.specs.declared.enter.Taken.{Taken}
 use Rattle.house.specs.declared.enter.Taken.the-variants.{On, Refused}
+use Rattle.house.proofs.Saying.{line-taken}
 use Rattle.house.proofs.Limits.{said-limited}
 
 -- ---- a line
 -- what it says was entered, so it was taken
-pub line-entered : (line : List ℕ) (r : Reading) (l after : Lists) (said : Line) (t : Taken) → Says line (r .stage) said
+pub line-entered : (line : List ℕ) (r : Reading) (l after : Lists) (said : Line) (t : Taken) → said ≡ says line (r .stage)
     → Enters r said l t after → Takes r line l t after
-unfolding Says
-line-entered line r l after said t s g = rw (s (roomsOf l) (readingOf r l) refl) g
+line-entered line r l after said t s g = rw (line-taken (roomsOf l) (readingOf r l) line, ← s) g
 
 -- ---- all lines
 -- what is said where a line leads to this

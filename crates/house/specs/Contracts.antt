@@ -1,55 +1,24 @@
--- What the private functions require and ensure, with a name for each fact. A text is read by index, and what was read stands in the code's
--- record and the three lent stores: each list is the front of its store. Nothing here has to be believed: no public promise mentions it.
-use Prim.Native.Nat.{ℕ, zero, suc, _+_, _*_, _≤_, _<_}
+-- What the private functions require and ensure, with a name for each fact. What was read stands in the code's record and the three lent stores:
+-- each list is the front of its store. Nothing here has to be believed: no public promise mentions it.
+use Prim.Native.Nat.{ℕ, _+_, _≤_, _<_}
 use mathlib.Core.Bool.{Bool, true, false, _&&_}
 use mathlib.Core.List.{List, [], _∷_, _++_}
-use mathlib.Core.Option.{some}
 use mathlib.Core.Path.{_≡_}
 use lib.Dec.{eqb, ltb, leb}
-use lib.ListN.{length, getD, take, drop}
+use lib.ListN.{length, take, drop}
 use Rattle.base.specs.Refusals.{mostClauseLines}
 use Rattle.stores.specs.Lies.{Lies}
 use Rattle.text.specs.Lines.{lines, lineLength, LineAt}
-use Rattle.house.specs.Text.{digit, bytes}
+use Rattle.line.specs.declared.Line.{Line}
+use Rattle.line.specs.declared.Line.the-variants.{Size, Clause, Count, Wrong}
 use Rattle.house.specs.File.{Rooms, on, refuse, roomFor, withClause, lineTaken, Said, refused, readLines, said}
 use Rattle.house.specs.File as file
 use Rattle.house.specs.Promise.{Lists, roomsOf, resultOf}
 use Rattle.house.specs.declared.House.{House}
-use Rattle.house.specs.declared.line.Line.{Line}
-use Rattle.house.specs.declared.line.Line.the-variants.{Size, Clause, Count, Wrong}
 use Rattle.house.specs.declared.enter.Reading.{Reading}
 use Rattle.house.specs.declared.Progress.{Progress}
 use Rattle.house.specs.declared.enter.Taken.{Taken}
 use Rattle.house.specs.declared.enter.Taken.the-variants.{On, Refused}
-
--- ---- a text by index
--- the byte that the pair of digits at index i makes
-unfoldable pub byteAt : List ℕ → ℕ → ℕ
-byteAt text i = 16 * digit (getD text i 0) + digit (getD text (i + 1) 0)
-
--- the `count` bytes of a frame from index i on
-unfoldable pub frameAt : List ℕ → ℕ → ℕ → List ℕ
-frameAt text i zero = []
-frameAt text i (suc count) = byteAt text i ∷ frameAt text (i + 2) count
-
--- the bytes of a frame lie within the text from index i on, and there are at most 18: their sum fits 32 bits
-pub record SumAt (text : List ℕ) (i count : ℕ) : Type 0 where
-  pub most : count ≤ 18
-  pub within : i + 2 * count ≤ length text
-
--- at most eight bytes from index i on, each below 256: their number fits 64 bits
-pub record NumberAt (text : List ℕ) (i count : ℕ) : Type 0 where
-  pub most : count ≤ 8
-  pub within : i + 2 * count ≤ length text
-  pub small : (j : ℕ) → j < count → byteAt text (i + 2 * j) < 256
-
--- the line of `len` bytes at index i makes a frame of `count` bytes; with 0 of them it is refused with 8
-pub record FrameAt (text : List ℕ) (i len count : ℕ) : Type 0 where
-  pub most : count ≤ 18
-  pub within : 2 * count ≤ len
-  pub small : (j : ℕ) → j < count → byteAt text (i + 2 * j) < 256
-  pub frame : 0 < count → bytes (take len (drop i text)) ≡ some (frameAt text i count)
-  pub malformed : count ≡ 0 → (rooms : Rooms) (r : file.Reading) → lineTaken rooms r (take len (drop i text)) ≡ refuse 8
 
 -- ---- what a line says
 -- where it leads; a clause and the count of the 0F line are judged by what was read
@@ -63,10 +32,6 @@ takenAs rooms r (Count count) =
       | false ↦ refuse 13
     ]
 takenAs rooms r (Wrong number) = refuse number
-
--- the line says this, whatever was read, if the stage is the one given
-unfoldable pub Says : List ℕ → ℕ → Line → Type 0
-Says line stage said = (rooms : Rooms) (r : file.Reading) → r .stage ≡ stage → lineTaken rooms r line ≡ takenAs rooms r said
 
 -- ---- what was read
 -- two masks more, if there is room

@@ -1,13 +1,14 @@
 -- House files of the scope: what a text says, or the first refusal and its line.
-use Prim.Native.Nat.{ℕ, zero, suc, _+_, _*_, _/_, _%_}
+use Prim.Native.Nat.{ℕ, suc, _+_, _/_, _%_}
 use mathlib.Core.Bool.{Bool, true, false, _&&_, _||_}
 use mathlib.Core.List.{List, [], _∷_, _++_}
 use mathlib.Core.Option.{none, some}
 use lib.Dec.{eqb, ltb, leb}
-use lib.ListN.{length, getD, take, drop}
+use lib.ListN.{length, getD}
 use Rattle.base.specs.Refusals.{mostClauseLines, mostDigits}
 use Rattle.text.specs.Lines.{lines}
-use Rattle.house.specs.Text.{bytes, sum, number}
+use Rattle.line.specs.Text.{bytes, sum}
+use Rattle.line.specs.Says.{inPlace, width, lengthFor, field}
 
 -- the lengths of the lent stores of start, step and bad, in masks
 pub record Rooms : Type 0 where
@@ -33,23 +34,6 @@ nothing = record { stage = 0; n = 0; clauses = 0; start = []; step = []; bad = [
 pub data Taken : Type 0 where
   on : Reading → Taken
   refuse : ℕ → Taken
-
--- a kind is known and in its place: one 00 line, then 01 lines, 02 lines, 03 lines, one 0F line, nothing after
-unfoldable pub inPlace : ℕ → ℕ → Bool
-inPlace zero kind = eqb kind 0
-inPlace (suc s) kind = leb (suc s) kind && ((leb 1 kind && leb kind 3) || eqb kind 15)
-
--- how many bytes a mask of this kind has: later bits stand in a step alone
-unfoldable pub width : ℕ → ℕ
-width kind = elim (eqb kind 2) [ true ↦ 8 | false ↦ 4 ]
-
--- how many bytes a frame of this kind has, with its kind and its sum byte
-unfoldable pub lengthFor : ℕ → ℕ
-lengthFor kind = elim (eqb kind 0) [ true ↦ 3 | false ↦ elim (eqb kind 15) [ true ↦ 4 | false ↦ 2 + 2 * width kind ] ]
-
--- the number in `count` bytes of a frame, from index i on
-unfoldable pub field : List ℕ → ℕ → ℕ → ℕ
-field frame i count = number 0 (take count (drop i frame))
 
 -- the clause of a frame: two masks
 unfoldable pub clauseOf : ℕ → List ℕ → List ℕ

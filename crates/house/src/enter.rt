@@ -7,9 +7,9 @@ ghost use lib.ListN.{take, drop};
 ghost use Rattle.stores.specs.Lies.{Lies};
 ghost use Rattle.house.specs.Promise.{lists};
 ghost use Rattle.house.specs.Contracts.{PutAs, Lie, Ready, oneMore, Enters, Takes};
-ghost use Rattle.house.specs.declared.line.Line.the-variants.{Clause};
-use super::line::Line;
-use super::line::parse;
+ghost use Rattle.line.specs.declared.Line.the-variants.{Clause};
+use line::Line;
+use line::parse;
 
 // What was read so far: the stage, n, the count of clause lines, and each list's count of masks.
 pub(super) struct Reading {
@@ -145,6 +145,7 @@ pub(super) fn take_line(
         t (lists (now (start .exit)) (now (step .exit)) (now (bad .exit)))
         ⌝ }
 {
-    let said = parse(text, at, len, r.stage);
+    let end = at + len;
+    let said = parse(&text[at..end], r.stage);
     enter(r, said, start, step, bad)
 }

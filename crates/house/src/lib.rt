@@ -1,9 +1,8 @@
 // House files: a text is read into three lent clause stores, line after line, as a reader's place moves. It takes every text and every store. It
 // answers n and the counts of masks, with each list in front of its store and zeros behind it; or it refuses with 8 to 13 and the line, and leaves
-// the stores all zero. A line by itself is line.rt, what it does to what was read is enter.rt; here are the loop, the refusal of a file that stops
-// early, and the zeros.
+// the stores all zero. A line by itself is the crate `line`, what it does to what was read is enter.rt; here are the loop, the refusal of a file that
+// stops early, and the zeros.
 mod enter;
-mod line;
 
 ghost use mathlib.Core.Path.{_≡_};
 ghost use mathlib.Core.List.{[]};

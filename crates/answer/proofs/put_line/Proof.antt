@@ -8,7 +8,7 @@ use lib.Seq.{take-all}
 use borrow.Author.Needs.{needs}
 use Rattle.text.proofs.Laying.{writes-none, writes-length}
 use Rattle.text.specs.Writing.{Writes}
-use Rattle.house.specs.Text.{sum}
+use Rattle.line.specs.Text.{sum}
 use Rattle.answer.specs.Output.{digits}
 use Rattle.answer.proofs.Lines.{digits-end, sum-more, line-more, line-ended}
 use Rattle.answer.proofs.put_line.Statement.{statement}

@@ -1,11 +1,11 @@
--- `house::line::length_for` meets its contract: it tests what the definition tests, in the same order. A mask has at most eight bytes.
+-- `line::length_for` meets its contract: it tests what the definition tests, in the same order. A mask has at most eight bytes.
 -- Assumes nothing.
 use mathlib.Core.Path.{sym}
 use native.Mathlib.Omega.{arith}
 use borrow.Author.Needs.{needs}
-use Rattle.house.proofs.Placing.{width-most, length-size, length-count, length-clause}
-use Rattle.house.proofs.line.length_for.Statement.{statement}
-use Rattle.house.proofs.line.length_for.Tie as tie
+use Rattle.line.proofs.Placing.{width-most, length-size, length-count, length-clause}
+use Rattle.line.proofs.length_for.Statement.{statement}
+use Rattle.line.proofs.length_for.Tie as tie
 
 returns : tie.Need-returns
 returns c = sym (length-size _ (c .if1 .taken))

@@ -10,8 +10,8 @@ use borrow.Author.Tests.{leb-true, le-leb, lt-leb}
 use lib.Dec.{leb}
 use lib.ListN.{getD}
 use Rattle.base.proofs.Tests.{test, both, eq-or-ne}
-use Rattle.house.specs.Text.{digit}
-use Rattle.house.specs.Contracts.{byteAt}
+use Rattle.line.specs.Text.{digit}
+use Rattle.line.specs.Contracts.{byteAt}
 
 -- a number that is not from a to b
 pub outside : (a b c : ℕ) → (c < a) ⊎ (b < c) → (leb a c && leb c b) ≡ false
@@ -41,14 +41,14 @@ module _ (c : ℕ) where
       (λ f. rw (e, f, digit) (omega (arith, leb-true c 70 (both (leb 65 c) (leb c 70) f .1))))
       (λ f. rw (e, f, digit) (omega arith))))
 
--- the n bytes from index i on are digits
-abbrev pub AllDigits : List ℕ → ℕ → ℕ → Type 0
-AllDigits text i n = (j : ℕ) → j < n → digit (getD text (i + j) 0) < 16
+-- the first n bytes are digits
+abbrev pub AllDigits : List ℕ → ℕ → Type 0
+AllDigits line n = (j : ℕ) → j < n → digit (getD line j 0) < 16
 
-pub digits-more : (text : List ℕ) (i n : ℕ) {r : ℕ} → AllDigits text i n → r ≡ digit (getD text (i + n) 0) → (r ≡ 16 → ⊥) → AllDigits text i (n + 1)
-digits-more text i n all e f j h =
+pub digits-more : (line : List ℕ) (n : ℕ) {r : ℕ} → AllDigits line n → r ≡ digit (getD line n 0) → (r ≡ 16 → ⊥) → AllDigits line (n + 1)
+digits-more line n all e f j h =
     ⊎-elim
-    (λ q. rw q (omega (arith, digit-most (getD text (i + n) 0) e, e, f)))
+    (λ q. rw q (omega (arith, digit-most (getD line n 0) e, e, f)))
     (λ g. all j (omega (arith, g)))
     (eq-or-ne j n)
 

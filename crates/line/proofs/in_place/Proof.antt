@@ -1,11 +1,11 @@
--- `house::line::in_place` meets its contract: it tests what the definition tests, in the same order. Assumes nothing.
+-- `line::in_place` meets its contract: it tests what the definition tests, in the same order. Assumes nothing.
 use mathlib.Core.Path.{sym}
 use mathlib.Core.Logic.{inl, inr, ⊎-elim}
 use native.Mathlib.Omega.{arith}
 use borrow.Author.Tests.{leb-true, leb-false}
-use Rattle.house.proofs.Placing.{place-first, place-below, place-clause, place-last}
-use Rattle.house.proofs.line.in_place.Statement.{statement}
-use Rattle.house.proofs.line.in_place.Tie as tie
+use Rattle.line.proofs.Placing.{place-first, place-below, place-clause, place-last}
+use Rattle.line.proofs.in_place.Statement.{statement}
+use Rattle.line.proofs.in_place.Tie as tie
 
 returns : tie.Need-returns
 returns c = sym (place-first _ _ (c .if1 .taken))

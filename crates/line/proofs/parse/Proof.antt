@@ -1,25 +1,24 @@
--- `house::line::parse` meets its contract: its tests are those of the definition, in the order of the refusals, on the frame that is read by index.
+-- `line::parse` meets its contract: its tests are those of the definition, in the order of the refusals, on the frame that is read by index.
 -- Assumes nothing.
 use Prim.Native.Nat.{ℕ, _+_, _*_, _≤_}
-use mathlib.Core.Path.{_≡_, refl}
+use mathlib.Core.Path.{_≡_, refl, sym}
 use native.Mathlib.Omega.{arith}
 use borrow.Author.Needs.{needs}
 use borrow.Author.Tests.{not-true, not-false}
-use Rattle.house.specs.Contracts.{NumberAt, Says}
-use Rattle.house.proofs.Placing.{width-most, length-size, length-count, length-clause}
-use Rattle.house.proofs.Numbers.{number-two}
-use Rattle.house.proofs.Saying.{Right, number-within, sum-wrong, place-wrong, length-wrong, right-at, size-said, count-said, clause-said}
-use Rattle.house.proofs.line.parse.Statement.{statement}
-use Rattle.house.proofs.line.parse.Tie as tie
+use Rattle.line.specs.Contracts.{NumberAt}
+use Rattle.line.proofs.Placing.{width-most, length-size, length-count, length-clause}
+use Rattle.line.proofs.Numbers.{number-two}
+use Rattle.line.proofs.Saying.{Right, number-within, sum-wrong, place-wrong, length-wrong, right-at, size-said, count-said, clause-said}
+use Rattle.line.proofs.parse.Statement.{statement}
+use Rattle.line.proofs.parse.Tie as tie
 
 returns : tie.Need-returns
-unfolding Says
-returns c = λ rooms r s. c .before .frame-length .ensures .malformed (c .if1 .taken) rooms r
+returns c = sym (c .before .frame-length .ensures .malformed (c .if1 .taken) _)
 
 returns-2 : tie.Need-returns-2
 returns-2 c =
     let framed = c .before .before .before in
-    sum-wrong _ _ _ _ _ (framed .frame-length .ensures) (c .before .before .if1 .left) (c .before .sum-of .ensures) (c .if2 .taken)
+    sum-wrong _ _ _ (framed .frame-length .ensures) (c .before .before .if1 .left) (c .before .sum-of .ensures) (c .if2 .taken)
 
 returns-3 : tie.Need-returns-3
 returns-3 c =
@@ -27,7 +26,7 @@ returns-3 c =
     let kinds = placed .before in
     let sums = kinds .before .before in
     let framed = sums .before .before in
-    place-wrong _ _ _ _ _ (framed .frame-length .ensures) (sums .before .if1 .left) (sums .sum-of .ensures) (kinds .before .if2 .left)
+    place-wrong _ _ _ (framed .frame-length .ensures) (sums .before .if1 .left) (sums .sum-of .ensures) (kinds .before .if2 .left)
     (kinds .byte-at .ensures) (placed .in-place .ensures) (not-true _ (c .if3 .taken))
 
 returns-4 : tie.Need-returns-4
@@ -37,31 +36,31 @@ returns-4 c =
     let kinds = placed .before in
     let sums = kinds .before .before in
     let framed = sums .before .before in
-    length-wrong _ _ _ _ _ (framed .frame-length .ensures) (sums .before .if1 .left) (sums .sum-of .ensures) (kinds .before .if2 .left)
+    length-wrong _ _ _ (framed .frame-length .ensures) (sums .before .if1 .left) (sums .sum-of .ensures) (kinds .before .if2 .left)
     (kinds .byte-at .ensures) (placed .in-place .ensures) (not-false _ (sized .before .if3 .left)) (sized .length-for .ensures) (c .if4 .taken)
 
 -- behind the last test that refuses: a frame whose sum, kind and length are right
 right : (here : tie.Else4)
     → (let framed = here .before .before .before .before .before .before .before .before in
     let a = framed .before .before .args in
-    Right (a .text .now) (a .at) (a .len) (framed .frame-length .result) (a .stage) (here .before .before .before .before .byte-at .result))
+    Right (a .line .now) (framed .frame-length .result) (a .stage) (here .before .before .before .before .byte-at .result))
 right here =
     let sized = here .before in
     let placed = sized .before .before in
     let kinds = placed .before in
     let sums = kinds .before .before in
     let framed = sums .before .before in
-    right-at _ _ _ _ _ (framed .frame-length .ensures) (sums .before .if1 .left) (sums .sum-of .ensures) (kinds .before .if2 .left)
+    right-at _ _ _ (framed .frame-length .ensures) (sums .before .if1 .left) (sums .sum-of .ensures) (kinds .before .if2 .left)
     (kinds .byte-at .ensures) (placed .in-place .ensures) (not-false _ (sized .before .if3 .left)) (sized .length-for .ensures) (here .if4 .left)
 
 -- and a number within that frame
 inside : (here : tie.Else4) (j k : ℕ) {i : ℕ}
     → (let framed = here .before .before .before .before .before .before .before .before in
     let a = framed .before .before .args in
-    i ≡ a .at + 2 * j → j + k ≤ framed .frame-length .result → k ≤ 8 → NumberAt (a .text .now) i k)
+    i ≡ 2 * j → j + k ≤ framed .frame-length .result → k ≤ 8 → NumberAt (a .line .now) i k)
 inside here j k =
     let framed = here .before .before .before .before .before .before .before .before in
-    number-within _ _ _ _ (framed .before .before .pre) (framed .frame-length .ensures) j k
+    number-within _ _ (framed .frame-length .ensures) j k
 
 byte-at-requires-2 : tie.Need-byte-at-requires-2
 byte-at-requires-2 c κs = omega (arith, length-size _ (c .if5 .taken))
@@ -72,8 +71,8 @@ returns-5 c = size-said (right (c .before .before)) (c .before .if5 .taken) (c .
 number-at-requires : tie.Need-number-at-requires
 number-at-requires c κs = inside (c .before .before) 1 2 refl (omega (arith, length-count _ (c .if6 .taken))) (omega arith)
 
-cast-t17 : tie.Need-cast-t17
-cast-t17 c =
+cast-t13 : tie.Need-cast-t13
+cast-t13 c =
     let within = inside (c .before .before .before) 1 2 refl (omega (arith, length-count _ (c .before .if6 .taken))) (omega arith) in
     record { fits = omega (arith, number-two _ _ within (c .number-at .ensures)) }
 
@@ -90,20 +89,8 @@ number-at-requires-2 c κs =
 mul-number-at : tie.Need-mul-number-at
 mul-number-at c = record { fits = omega (arith, width-most _ (c .before .mask-width .ensures)) }
 
-add-number-at-4 : tie.Need-add-number-at-4
-add-number-at-4 c =
-    let wide = c .before in
-    let other = wide .before in
-    let framed = other .before .before .before .before .before .before .before .before .before .before in
-    record {
-      fits = omega (
-        arith,
-        framed .before .before .pre .within,
-        framed .frame-length .ensures .within,
-        length-clause _ (other .before .if5 .left) (other .if6 .left),
-        wide .mask-width .ensures,
-      );
-    }
+add-number-at : tie.Need-add-number-at
+add-number-at c = record { fits = omega (arith, width-most _ (c .before .mask-width .ensures)) }
 
 number-at-requires-3 : tie.Need-number-at-requires-3
 number-at-requires-3 c κs =
@@ -132,18 +119,14 @@ parse-spec =
     returns-3
     (λ c κs. search needs)
     returns-4
-    (λ c. search needs)
     byte-at-requires-2
     returns-5
-    (λ c. search needs)
     number-at-requires
-    cast-t17
+    cast-t13
     returns-6
     (λ c κs. search needs)
-    (λ c. search needs)
     number-at-requires-2
-    (λ c. search needs)
     mul-number-at
-    add-number-at-4
+    add-number-at
     number-at-requires-3
     returns-7)

@@ -1,10 +1,10 @@
--- `house::line::byte_at` meets its contract. A digit has a value of at most 16, so the byte fits. Assumes nothing.
+-- `line::byte_at` meets its contract. A digit has a value of at most 16, so the byte fits. Assumes nothing.
 use native.Mathlib.Omega.{arith}
 use borrow.Author.Needs.{needs}
-use Rattle.house.specs.Contracts.{byteAt}
-use Rattle.house.proofs.Digits.{digit-most}
-use Rattle.house.proofs.line.byte_at.Statement.{statement}
-use Rattle.house.proofs.line.byte_at.Tie as tie
+use Rattle.line.specs.Contracts.{byteAt}
+use Rattle.line.proofs.Digits.{digit-most}
+use Rattle.line.proofs.byte_at.Statement.{statement}
+use Rattle.line.proofs.byte_at.Tie as tie
 
 mul-result : tie.Need-mul-result
 mul-result c = record { fits = omega (arith, digit-most _ (c .digit-value .ensures)) }

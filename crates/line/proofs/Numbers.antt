@@ -7,9 +7,9 @@ use native.Mathlib.Nat.{pow-suc, pow-le-pow-right}
 use native.Mathlib.Numerals.{add-one}
 use native.Mathlib.Omega.{arith}
 use lib.ListN.{length, getD, take, drop}
-use Rattle.house.specs.Text.{sum, number}
-use Rattle.house.specs.File.{field}
-use Rattle.house.specs.Contracts.{byteAt, frameAt, NumberAt}
+use Rattle.line.specs.Text.{sum, number}
+use Rattle.line.specs.Says.{field}
+use Rattle.line.specs.Contracts.{byteAt, frameAt, NumberAt}
 
 sum-last : (l : List ℕ) (b : ℕ) → sum (l ++ (b ∷ [])) ≡ sum l + b
 unfolding sum
@@ -64,12 +64,15 @@ module _ (text : List ℕ) where
       ap (number 0)
       (ap (λ x. take k (drop j (frameAt text i x))) e ∙ ap (take k) (frame-drop j (count - j) i) ∙ frame-take k (count - j) (i + 2 * j) (omega arith))
 
-  module _ (i j : ℕ) where
-    pub sum-more : {t b : ℕ} → t ≡ sum (frameAt text i j) → b ≡ byteAt text (i + 2 * j) → t + b ≡ sum (frameAt text i (j + 1))
-    sum-more e f = rw (add-one j, frame-last j i, sum-last (frameAt text i j) (byteAt text (i + 2 * j))) (omega (arith, e, f))
+  -- a byte more of the whole frame's sum, and of a number within it
+  pub sum-more : (j : ℕ) {t b : ℕ} → t ≡ sum (frameAt text 0 j) → b ≡ byteAt text (2 * j) → t + b ≡ sum (frameAt text 0 (j + 1))
+  sum-more j e f =
+      let g : 0 + 2 * j ≡ 2 * j = omega arith in
+      rw (add-one j, frame-last j 0, sum-last (frameAt text 0 j) (byteAt text (0 + 2 * j)), g) (omega (arith, e, f))
 
-    pub number-more : {t b : ℕ} → t ≡ number 0 (frameAt text i j) → b ≡ byteAt text (i + 2 * j) → 256 * t + b ≡ number 0 (frameAt text i (j + 1))
-    number-more e f = rw (add-one j, frame-last j i, number-last 0 (frameAt text i j) (byteAt text (i + 2 * j))) (omega (arith, e, f))
+  pub number-more : (i j : ℕ) {t b : ℕ} → t ≡ number 0 (frameAt text i j) → b ≡ byteAt text (i + 2 * j)
+      → 256 * t + b ≡ number 0 (frameAt text i (j + 1))
+  number-more i j e f = rw (add-one j, frame-last j i, number-last 0 (frameAt text i j) (byteAt text (i + 2 * j))) (omega (arith, e, f))
 
   number-below : (k i : ℕ) → ((j : ℕ) → j < k → byteAt text (i + 2 * j) < 256) → number 0 (frameAt text i k) < 256 ^ k
   unfolding number frameAt

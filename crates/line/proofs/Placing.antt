@@ -7,8 +7,8 @@ use native.Mathlib.Omega.{arith}
 use borrow.Author.Tests.{le-leb, lt-leb, eqb-true, eqb-false, eq-eqb, ne-eqb}
 use lib.Dec.{eqb, leb}
 use Rattle.base.proofs.Tests.{test}
-use Rattle.house.specs.File.{inPlace, width, lengthFor}
-use Rattle.house.proofs.Digits.{outside}
+use Rattle.line.specs.Says.{inPlace, width, lengthFor}
+use Rattle.line.proofs.Digits.{outside}
 
 module _ (kind : ℕ) where
   pub place-first : (stage : ℕ) → stage ≡ 0 → inPlace stage kind ≡ eqb kind 0

@@ -1,20 +1,20 @@
--- `house::line::number_at` meets its contract. The loop's invariant: the number so far is that of the first j bytes. With at most seven of them below
+-- `line::number_at` meets its contract. The loop's invariant: the number so far is that of the first j bytes. With at most seven of them below
 -- 256 there is room for one more. The measure is what is left of them. Assumes nothing.
 use Prim.Native.Nat.{_-_, _≤_}
 use mathlib.Core.Path.{_≡_, refl}
 use native.Mathlib.Omega.{arith}
 use borrow.Author.Needs.{needs}
-use Rattle.house.specs.Text.{number}
-use Rattle.house.specs.Contracts.{frameAt}
-use Rattle.house.proofs.Numbers.{number-more, number-seven}
-use Rattle.house.proofs.line.number_at.Statement.{statement}
-use Rattle.house.proofs.line.number_at.Tie as tie
+use Rattle.line.specs.Text.{number}
+use Rattle.line.specs.Contracts.{frameAt}
+use Rattle.line.proofs.Numbers.{number-more, number-seven}
+use Rattle.line.proofs.number_at.Statement.{statement}
+use Rattle.line.proofs.number_at.Tie as tie
 
 abbrev Inv-loop : tie.InvT-loop
-Inv-loop text at count high₀ j₀ high j = (j ≤ count) × (high ≡ number 0 (frameAt text at j))
+Inv-loop line at count high₀ j₀ high j = (j ≤ count) × (high ≡ number 0 (frameAt line at j))
 
 abbrev μ-loop : tie.MeasureT-loop
-μ-loop text at count high₀ j₀ high j = count - j
+μ-loop line at count high₀ j₀ high j = count - j
 
 loop-holds : tie.Need-loop-holds Inv-loop μ-loop
 unfolding number frameAt

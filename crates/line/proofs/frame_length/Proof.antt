@@ -1,27 +1,27 @@
--- `house::line::frame_length` meets its contract: each test that fails tells that the line has not the form. The loop's invariant: the first j bytes
+-- `line::frame_length` meets its contract: each test that fails tells that the line has not the form. The loop's invariant: the first j bytes
 -- are digits. The measure is what is left of the line. Assumes nothing.
 use Prim.Native.Nat.{_-_, _<_}
 use native.Mathlib.Omega.{arith}
 use borrow.Author.Needs.{needs}
-use Rattle.house.proofs.Digits.{AllDigits, digits-more}
-use Rattle.house.proofs.Malformed.{no-frame, a-frame}
-use Rattle.house.proofs.line.frame_length.Statement.{statement}
-use Rattle.house.proofs.line.frame_length.Tie as tie
+use Rattle.line.proofs.Digits.{AllDigits, digits-more}
+use Rattle.line.proofs.Malformed.{last-byte, no-frame, a-frame}
+use Rattle.line.proofs.frame_length.Statement.{statement}
+use Rattle.line.proofs.frame_length.Tie as tie
 
 abbrev Inv-loop : tie.InvT-loop
-Inv-loop text at len j₀ j = (j < len) × AllDigits text at j
+Inv-loop line len j₀ j = (j < len) × AllDigits line j
 
 abbrev μ-loop : tie.MeasureT-loop
-μ-loop text at len j₀ j = len - j
+μ-loop line len j₀ j = len - j
 
 returns : tie.Need-returns Inv-loop μ-loop
-returns c = no-frame _ _ _ (c .before .before .pre .within) (λ frame w pos most. omega (arith, w .size))
+returns c = no-frame _ (λ frame w pos most. omega (arith, w .size))
 
 returns-2 : tie.Need-returns-2 Inv-loop μ-loop
-returns-2 c = no-frame _ _ _ (c .before .before .before .pre .within) (λ frame w pos most. omega (arith, w .size))
+returns-2 c = no-frame _ (λ frame w pos most. omega (arith, w .size))
 
 returns-3 : tie.Need-returns-3 Inv-loop μ-loop
-returns-3 c = no-frame _ _ _ (c .before .before .before .before .before .pre .within) (λ frame w pos most. c .if3 .taken (w .last))
+returns-3 c = no-frame _ (λ frame w pos most. c .if3 .taken (last-byte _ frame w))
 
 loop-holds : tie.Need-loop-holds Inv-loop μ-loop
 loop-holds c = (search needs, λ k l. absurd (omega arith))
@@ -29,21 +29,18 @@ loop-holds c = (search needs, λ k l. absurd (omega arith))
 returns-4 : tie.Need-returns-4 Inv-loop μ-loop
 returns-4 c =
     let in-loop = c .before .before .before in
-    let line = in-loop .before .before .before .before .before .before .before .pre in
-    no-frame _ _ _ (line .within)
+    no-frame _
     (λ frame w pos most. omega (arith, w .size, w .digits (in-loop .before .loop .j) (omega (arith, w .size)), c .before .digit-value .ensures))
 
 loop-again : tie.Need-loop-again Inv-loop μ-loop
 loop-again c =
     let at-loop = c .before .before .before .before in
     let args = at-loop .before .before .before .before .before .before .args in
-    (omega arith, digits-more (args .text .now) (args .at) _ (at-loop .loop .inv .1) (c .before .digit-value .ensures) (c .if4 .left))
+    (omega arith, digits-more (args .line .now) _ (at-loop .loop .inv .1) (c .before .digit-value .ensures) (c .if4 .left))
 
 returns-5 : tie.Need-returns-5 Inv-loop μ-loop
 returns-5 c =
-    let before = c .before .before in
-    let line = before .before .before .before .before .before .pre in
-    a-frame _ _ _ (line .within) _ (omega arith) (omega arith) (before .if3 .left) (λ k l. c .before .loop .inv .1 k (omega arith))
+    a-frame _ _ (omega arith) (omega arith) (c .before .before .if3 .left) (λ k l. c .before .loop .inv .1 k (omega arith))
 
 pub frame-length-spec : {M : Type 1} → statement M
 frame-length-spec =
@@ -55,10 +52,8 @@ frame-length-spec =
     returns-2
     (λ c. search needs)
     (λ c. search needs)
-    (λ c. search needs)
     returns-3
     loop-holds
-    (λ c. search needs)
     (λ c. search needs)
     (λ c. search needs)
     (λ c κs. search needs)

@@ -1,12 +1,12 @@
--- `house::line::digit_value` meets its contract: it compares as the definition does. Assumes nothing.
+-- `line::digit_value` meets its contract: it compares as the definition does. Assumes nothing.
 use mathlib.Core.Path.{sym}
 use mathlib.Core.Logic.{inl, inr, ⊎-elim}
 use native.Mathlib.Omega.{arith}
 use borrow.Author.Tests.{leb-true, leb-false}
-use Rattle.house.proofs.Digits.{digit-number, digit-letter, digit-none}
+use Rattle.line.proofs.Digits.{digit-number, digit-letter, digit-none}
 use borrow.Author.Needs.{needs}
-use Rattle.house.proofs.line.digit_value.Statement.{statement}
-use Rattle.house.proofs.line.digit_value.Tie as tie
+use Rattle.line.proofs.digit_value.Statement.{statement}
+use Rattle.line.proofs.digit_value.Tie as tie
 
 returns : tie.Need-returns
 returns c = sym (digit-number _ (c .before .if1 .taken) (leb-true _ _ (c .if2 .taken)))

@@ -12,9 +12,9 @@ use lib.ListN.{length, getD, take, drop}
 use lib.Seq.{drop-cons}
 use Rattle.base.proofs.Tests.{test, both}
 use Rattle.base.proofs.Lists.{next-two}
-use Rattle.house.specs.Text.{digit, ahead, bytes}
-use Rattle.house.specs.Contracts.{byteAt, frameAt}
-use Rattle.house.proofs.Digits.{AllDigits}
+use Rattle.line.specs.Text.{digit, ahead, bytes}
+use Rattle.line.specs.Contracts.{byteAt, frameAt}
+use Rattle.line.proofs.Digits.{AllDigits}
 
 -- ---- from a line to its frame
 -- a pair, by its test
@@ -54,7 +54,7 @@ module _ (text : List ℕ) where
       ap (take (suc (suc n))) (rw e at (next-two text i h))
 
   -- pairs of digits with a line feed
-  pub frame-whole : (count i : ℕ) → i + 2 * count < length text → AllDigits text i (2 * count)
+  pub frame-whole : (count i : ℕ) → i + 2 * count < length text → AllDigits text (i + 2 * count)
       → getD text (i + 2 * count) 0 ≡ 10 → bytes (take (suc (2 * count)) (drop i text)) ≡ some (frameAt text i count)
   unfolding ahead frameAt byteAt
   frame-whole zero i h digits last =
@@ -63,16 +63,12 @@ module _ (text : List ℕ) where
   frame-whole (suc count) i h digits last =
       let e : 2 * suc count ≡ suc (suc (2 * count)) = omega arith in
       let f : i + 2 * suc count ≡ i + 2 + 2 * count = omega arith in
-      let g : i + 0 ≡ i = omega arith in
-      let rest = frame-whole count (i + 2) (omega arith) (λ j l. rw (at-two j) (digits (j + 2) (omega arith))) (rw f at last) in
+      let rest = frame-whole count (i + 2) (omega arith) (λ j l. digits j (omega arith)) (rw f at last) in
       rw (e, take-two i (suc (2 * count)) (omega arith))
       (bytes-pair (getD text i 0) (getD text (i + 1) 0) (take (suc (2 * count)) (drop (i + 2) text))
-      (rw g at (digits 0 (omega arith)))
-      (digits 1 (omega arith))
+      (digits i (omega arith))
+      (digits (i + 1) (omega arith))
       ∙ ap (ahead (byteAt text i)) rest)
-    where
-      at-two : (j : ℕ) → i + 2 + j ≡ i + (j + 2)
-      at-two j = omega arith
 
 -- ---- whatever line makes a frame
 -- what stands behind a pair
@@ -86,7 +82,7 @@ ahead-some b (some more) frame e f = f more refl (cc)
 pub record Form (line frame : List ℕ) : Type 0 where
   pub size : length line ≡ 1 + 2 * length frame
   pub last : getD line (2 * length frame) 0 ≡ 10
-  pub digits : (j : ℕ) → j < 2 * length frame → digit (getD line j 0) < 16
+  pub digits : AllDigits line (2 * length frame)
 
 -- a line without a frame has none
 none-some : {C : Type 0} (o : Option (List ℕ)) (frame : List ℕ) → o ≡ none → o ≡ some frame → C
