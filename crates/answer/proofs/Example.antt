@@ -7,8 +7,8 @@ use Rattle.system.specs.System.{literalTrue, clauseTrue, listTrue, pair, model,
 use Rattle.call.specs.Call.{wrongStores, refused, ended, called}
 use Rattle.text.specs.Lines.{before, lines}
 use Rattle.line.specs.Text.{digit, ahead, bytes, sum, number}
-use Rattle.line.specs.Says.{inPlace, width, lengthFor, field}
-use Rattle.house.specs.File.{clauseOf, hasRoom, roomFor, withClause, entered, judged, lineTaken, readLines, said}
+use Rattle.line.specs.Says.{inPlace, width, lengthFor, field, content, frameSays, says}
+use Rattle.house.specs.File.{hasRoom, roomFor, withClause, readLines, said}
 use Rattle.answer.specs.Output.{letter, digits, sumByte, lineOf, one, two, four}
 use Rattle.answer.specs.Answer.{stateLines, verdictLines, callLines, scanStores, saidLines, answered}
 use Rattle.answer.specs.Example.{ringFile, ringAnswer}
@@ -16,6 +16,6 @@ use Rattle.answer.specs.Example.{ringFile, ringAnswer}
 pub ring-answered : answered ringFile ≡ ringAnswer
 unfolding bit somewhere least levelOf put states R wanted judge round tested found deeper settled fits kept react next searchFrom searched
     literalTrue clauseTrue listTrue pair model wrongSize wrongCount wrongBit refusalOf wrongStores refused ended called
-    before lines digit ahead bytes sum number inPlace width lengthFor field clauseOf hasRoom roomFor withClause entered judged lineTaken readLines
+    before lines digit ahead bytes sum number inPlace width lengthFor field content frameSays says hasRoom roomFor withClause readLines
     said letter digits sumByte lineOf one two four stateLines verdictLines callLines scanStores saidLines answered
 ring-answered = refl

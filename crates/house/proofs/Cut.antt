@@ -3,7 +3,7 @@
 use Prim.Native.Nat.{ℕ, zero, suc, _+_, _-_, _*_, _≤_, _<_}
 use mathlib.Core.Bool.{false}
 use mathlib.Core.List.{List, [], _∷_}
-use mathlib.Core.Path.{_≡_, refl}
+use mathlib.Core.Path.{_≡_, refl, ap}
 use native.Mathlib.Omega.{arith}
 use borrow.Author.Tests.{eqb-false, ltb-true, ltb-false}
 use lib.Dec.{eqb, ltb}
@@ -11,8 +11,8 @@ use lib.ListN.{length, getD, take}
 use Rattle.base.proofs.Tests.{test}
 use Rattle.text.specs.Lines.{before, lines}
 use Rattle.line.proofs.Frames.{form}
-use Rattle.house.specs.File.{Rooms, Reading, Taken, on, refuse, lineTaken, readLines, nothing, said}
-use Rattle.house.proofs.Saying.{line-malformed}
+use Rattle.line.proofs.Malformed.{malformed}
+use Rattle.house.specs.File.{Rooms, Reading, Taken, on, refuse, takenAs, lineTaken, readLines, nothing, said}
 use Rattle.house.proofs.Limits.{left, Onward, line-onward}
 
 -- no byte is a line feed
@@ -88,10 +88,12 @@ first-line b (c ∷ bs) =
 module _ (rooms : Rooms) where
   -- lines that are refused with 8
   long-refused : (r : Reading) (l : List ℕ) → 37 < length l → lineTaken rooms r l ≡ refuse 8
-  long-refused r l h = line-malformed rooms r l (λ frame e a b. omega (arith, form l frame e .size))
+  long-refused r l h = ap (takenAs rooms r) (malformed l (r .stage) (λ frame e a b. omega (arith, form l frame e .size)))
 
   feedless-refused : (r : Reading) (l : List ℕ) → Feedless l → lineTaken rooms r l ≡ refuse 8
-  feedless-refused r l f = line-malformed rooms r l (λ frame e a b. f (2 * length frame) (omega (arith, form l frame e .size)) (form l frame e .last))
+  feedless-refused r l f =
+      ap (takenAs rooms r)
+      (malformed l (r .stage) (λ frame e a b. f (2 * length frame) (omega (arith, form l frame e .size)) (form l frame e .last)))
 
   -- two texts whose first lines are refused, or are one line with rests that say the same
   same-refused : (r : Reading) (k number : ℕ) (l l' : List ℕ) (ls ls' : List (List ℕ)) → lineTaken rooms r l ≡ refuse number

@@ -11,9 +11,9 @@ use lib.Dec.{ltb}
 use Rattle.stores.specs.Lies.{Lies}
 use Rattle.line.specs.declared.Line.{Line}
 use Rattle.line.specs.declared.Line.the-variants.{Size, Clause, Count, Wrong}
-use Rattle.house.specs.File.{on, refuse, roomFor, withClause}
+use Rattle.house.specs.File.{on, refuse, roomFor, withClause, takenAs}
 use Rattle.house.specs.Promise.{Lists, lists, roomsOf}
-use Rattle.house.specs.Contracts.{takenAs, PutAs, Lie, readingOf, oneMore, Same, Leads, Enters}
+use Rattle.house.specs.Contracts.{PutAs, Lie, readingOf, oneMore, Same, Leads, Enters}
 use Rattle.house.specs.declared.enter.Reading.{Reading}
 use Rattle.house.specs.declared.enter.Taken.the-variants.{On, Refused}
 use Rattle.house.proofs.Lying.{put-room}

@@ -1,5 +1,4 @@
 -- The root of the laws.
-pub mod Saying
 pub mod Lying
 pub mod Entering
 pub mod Limits

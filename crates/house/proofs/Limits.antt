@@ -13,9 +13,11 @@ use lib.ListN.{length, getD, length-append}
 use Rattle.base.proofs.Tests.{test, clash, both}
 use Rattle.text.specs.Lines.{lines}
 use Rattle.line.specs.Text.{bytes, sum}
-use Rattle.line.specs.Says.{inPlace, lengthFor, field}
+use Rattle.line.specs.Says.{inPlace, width, lengthFor, field, content, frameSays, says}
+use Rattle.line.specs.declared.Line.{Line}
+use Rattle.line.specs.declared.Line.the-variants.{Wrong}
 use Rattle.line.proofs.Frames.{form}
-use Rattle.house.specs.File.{Rooms, Reading, Taken, on, refuse, clauseOf, roomFor, withClause, entered, judged, lineTaken}
+use Rattle.house.specs.File.{Rooms, Reading, Taken, on, refuse, roomFor, withClause, takenAs, lineTaken}
 use Rattle.house.specs.File.{Said, file, refused, nothing, readLines, said}
 
 -- the 00 line, 1,024 clause lines and the 0F line; from a stage on, those of them that can still come
@@ -102,10 +104,6 @@ module _ (r : Reading) (kind : ℕ) (clause : List ℕ) where
       (record { start = p .start; step = omega (arith, p .step, b); bad = p .bad; all = omega arith; few = few })
       (record { start = p .start; step = p .step; bad = omega (arith, p .bad, c); all = omega arith; few = few })
 
-clause-two : (kind : ℕ) (frame : List ℕ) → length (clauseOf kind frame) ≡ 2
-unfolding clauseOf
-clause-two kind frame = refl
-
 -- ---- a line
 -- the stage changes, and n; no list does
 abbrev staged : Reading → ℕ → ℕ → Reading
@@ -119,35 +117,43 @@ when : (b : Bool) (r : Reading) (len : ℕ) (x y : Taken) → (b ≡ true → On
 when true r len x y f g = f refl
 when false r len x y f g = g refl
 
-module _ (rooms : Rooms) (r : Reading) (len : ℕ) (short : len ≤ 37) where
-  entered-onward : (kind : ℕ) (frame : List ℕ) → inPlace (r .stage) kind ≡ true → Onward r len (entered rooms r kind frame)
-  unfolding entered
-  entered-onward kind frame e =
-      when (eqb kind 0) r len _ _
-      (λ z. let s : r .stage ≡ 0 = place-size (r .stage) (rw (eqb-true kind 0 z) at e) in
-      (omega (arith, left-first r s, left-later (staged r 1 (getD frame 1 0)) 0 refl (omega arith)), short, staged-paired r 1 (getD frame 1 0)))
-      (λ z. place-other (r .stage) kind e (eqb-false kind 0 z) (place-known (r .stage) kind e)
-      (λ s f h.
-      when (eqb kind 15) r len _ _
-      (λ y. when (eqb (field frame 1 2) (r .clauses)) r len _ (refuse 13)
-      (λ x. (omega (arith, left-later r s f h, left-last (staged r 16 (r .n)) 15 refl (omega arith)), short, staged-paired r 16 (r .n)))
-      (λ x. omega arith))
-      (λ y. when (ltb (r .clauses) 1024 && roomFor rooms r kind) r len _ (refuse 12)
-      (λ x.
-      let few = ltb-true (r .clauses) 1024 (both (ltb (r .clauses) 1024) (roomFor rooms r kind) x .0) in
-      (omega (arith, left-later r s f h, clause-left r kind (clauseOf kind frame), few), short, clause-paired r kind (clauseOf kind frame) (clause-two kind frame) few))
-      (λ x. omega arith))))
+module _ (rooms : Rooms) (r : Reading) (len : ℕ) where
+  -- by a test: what each of two lines leads to
+  says-when : (b : Bool) (s t : Line) → (b ≡ true → Onward r len (takenAs rooms r s)) → (b ≡ false → Onward r len (takenAs rooms r t))
+      → Onward r len (takenAs rooms r (elim b as (λ z. Line) [ true ↦ s | false ↦ t ]))
+  says-when true s t f g = f refl
+  says-when false s t f g = g refl
 
-  judged-onward : (frame : List ℕ) → Onward r len (judged rooms r frame)
-  unfolding judged
-  judged-onward frame =
-      when (eqb (sum frame % 256) 0) r len _ (refuse 9)
-      (λ e. when (inPlace (r .stage) (getD frame 0 0)) r len _ (refuse 10)
-      (λ f. when (eqb (length frame) (lengthFor (getD frame 0 0))) r len _ (refuse 11)
-      (λ g. entered-onward (getD frame 0 0) frame f)
-      (λ g. omega arith))
-      (λ f. omega arith))
-      (λ e. omega arith)
+  module _ (short : len ≤ 37) where
+    content-onward : (kind : ℕ) (frame : List ℕ) → inPlace (r .stage) kind ≡ true → Onward r len (takenAs rooms r (content kind frame))
+    unfolding content
+    content-onward kind frame e =
+        says-when (eqb kind 0) _ _
+        (λ z. let s : r .stage ≡ 0 = place-size (r .stage) (rw (eqb-true kind 0 z) at e) in
+        (omega (arith, left-first r s, left-later (staged r 1 (getD frame 1 0)) 0 refl (omega arith)), short, staged-paired r 1 (getD frame 1 0)))
+        (λ z. place-other (r .stage) kind e (eqb-false kind 0 z) (place-known (r .stage) kind e)
+        (λ s f h.
+        says-when (eqb kind 15) _ _
+        (λ y. when (eqb (field frame 1 2) (r .clauses)) r len _ (refuse 13)
+        (λ x. (omega (arith, left-later r s f h, left-last (staged r 16 (r .n)) 15 refl (omega arith)), short, staged-paired r 16 (r .n)))
+        (λ x. omega arith))
+        (λ y. when (ltb (r .clauses) 1024 && roomFor rooms r kind) r len _ (refuse 12)
+        (λ x.
+        let few = ltb-true (r .clauses) 1024 (both (ltb (r .clauses) 1024) (roomFor rooms r kind) x .0) in
+        let clause = field frame 1 (width kind) ∷ (field frame (1 + width kind) (width kind) ∷ []) in
+        (omega (arith, left-later r s f h, clause-left r kind clause, few), short, clause-paired r kind clause refl few))
+        (λ x. omega arith))))
+
+    frame-onward : (frame : List ℕ) → Onward r len (takenAs rooms r (frameSays frame (r .stage)))
+    unfolding frameSays
+    frame-onward frame =
+        says-when (eqb (sum frame % 256) 0) _ (Wrong 9)
+        (λ e. says-when (inPlace (r .stage) (getD frame 0 0)) _ (Wrong 10)
+        (λ f. says-when (eqb (length frame) (lengthFor (getD frame 0 0))) _ (Wrong 11)
+        (λ g. content-onward (getD frame 0 0) frame f)
+        (λ g. omega arith))
+        (λ f. omega arith))
+        (λ e. omega arith)
 
 or-second : (a b : Bool) → (a || b) ≡ false → b ≡ false
 or-second true b g = clash refl g
@@ -155,19 +161,19 @@ or-second false b g = g
 
 -- a line makes a frame of 18 bytes at most, and so has 37 bytes at most
 pub line-onward : (rooms : Rooms) (r : Reading) (line : List ℕ) → Onward r (length line) (lineTaken rooms r line)
-unfolding lineTaken
+unfolding says
 line-onward rooms r line = pick (bytes line) refl
   where
     pick : (frame : Option (List ℕ)) → bytes line ≡ frame
-        → Onward r (length line) (elim frame [
-          | none ↦ refuse 8
-          | some f ↦ elim (eqb (length f) 0 || ltb 18 (length f)) [ true ↦ refuse 8 | false ↦ judged rooms r f ]
-        ])
+        → Onward r (length line) (takenAs rooms r (elim frame as (λ z. Line) [
+          | none ↦ Wrong 8
+          | some f ↦ elim (eqb (length f) 0 || ltb 18 (length f)) [ true ↦ Wrong 8 | false ↦ frameSays f (r .stage) ]
+        ]))
     pick none e = omega arith
     pick (some f) e =
-        when (eqb (length f) 0 || ltb 18 (length f)) r (length line) (refuse 8) (judged rooms r f)
+        says-when rooms r (length line) (eqb (length f) 0 || ltb 18 (length f)) (Wrong 8) (frameSays f (r .stage))
         (λ g. omega arith)
-        (λ g. judged-onward rooms r (length line) (omega (arith, form line f e .size, ltb-false 18 (length f) (or-second (eqb (length f) 0) (ltb 18 (length f)) g))) f)
+        (λ g. frame-onward rooms r (length line) (omega (arith, form line f e .size, ltb-false 18 (length f) (or-second (eqb (length f) 0) (ltb 18 (length f)) g))) f)
 
 -- ---- a text
 -- a refusal has a number that is not 0 and stands at line 1,027 at the latest; a file's lists are pairs, and few

@@ -25,14 +25,13 @@ use Rattle.house.specs.declared.enter.Reading.{Reading}
 use Rattle.house.specs.declared.Progress.{Progress}
 use Rattle.house.specs.declared.enter.Taken.{Taken}
 use Rattle.house.specs.declared.enter.Taken.the-variants.{On, Refused}
-use Rattle.house.proofs.Saying.{line-taken}
 use Rattle.house.proofs.Limits.{said-limited}
 
 -- ---- a line
 -- what it says was entered, so it was taken
 pub line-entered : (line : List ℕ) (r : Reading) (l after : Lists) (said : Line) (t : Taken) → said ≡ says line (r .stage)
     → Enters r said l t after → Takes r line l t after
-line-entered line r l after said t s g = rw (line-taken (roomsOf l) (readingOf r l) line, ← s) g
+line-entered line r l after said t s g = rw (← s) g
 
 -- ---- all lines
 -- what is said where a line leads to this

@@ -10,8 +10,7 @@ use Rattle.base.specs.Refusals.{mostClauseLines}
 use Rattle.stores.specs.Lies.{Lies}
 use Rattle.text.specs.Lines.{lines, lineLength, LineAt}
 use Rattle.line.specs.declared.Line.{Line}
-use Rattle.line.specs.declared.Line.the-variants.{Size, Clause, Count, Wrong}
-use Rattle.house.specs.File.{Rooms, on, refuse, roomFor, withClause, lineTaken, Said, refused, readLines, said}
+use Rattle.house.specs.File.{takenAs, lineTaken, on, refuse, Said, refused, readLines, said}
 use Rattle.house.specs.File as file
 use Rattle.house.specs.Promise.{Lists, roomsOf, resultOf}
 use Rattle.house.specs.declared.House.{House}
@@ -19,19 +18,6 @@ use Rattle.house.specs.declared.enter.Reading.{Reading}
 use Rattle.house.specs.declared.Progress.{Progress}
 use Rattle.house.specs.declared.enter.Taken.{Taken}
 use Rattle.house.specs.declared.enter.Taken.the-variants.{On, Refused}
-
--- ---- what a line says
--- where it leads; a clause and the count of the 0F line are judged by what was read
-abbrev pub takenAs : Rooms → file.Reading → Line → file.Taken
-takenAs rooms r (Size n) = on (record { stage = 1; n = n; clauses = r .clauses; start = r .start; step = r .step; bad = r .bad })
-takenAs rooms r (Clause kind ones zeros) =
-    elim (ltb (r .clauses) mostClauseLines && roomFor rooms r kind) [ true ↦ on (withClause r kind (ones ∷ (zeros ∷ []))) | false ↦ refuse 12 ]
-takenAs rooms r (Count count) =
-    elim (eqb count (r .clauses)) [
-      | true ↦ on (record { stage = 16; n = r .n; clauses = r .clauses; start = r .start; step = r .step; bad = r .bad })
-      | false ↦ refuse 13
-    ]
-takenAs rooms r (Wrong number) = refuse number
 
 -- ---- what was read
 -- two masks more, if there is room

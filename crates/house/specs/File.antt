@@ -1,14 +1,14 @@
 -- House files of the scope: what a text says, or the first refusal and its line.
-use Prim.Native.Nat.{ℕ, suc, _+_, _/_, _%_}
-use mathlib.Core.Bool.{Bool, true, false, _&&_, _||_}
+use Prim.Native.Nat.{ℕ, suc, _+_}
+use mathlib.Core.Bool.{Bool, true, false, _&&_}
 use mathlib.Core.List.{List, [], _∷_, _++_}
-use mathlib.Core.Option.{none, some}
 use lib.Dec.{eqb, ltb, leb}
-use lib.ListN.{length, getD}
-use Rattle.base.specs.Refusals.{mostClauseLines, mostDigits}
+use lib.ListN.{length}
+use Rattle.base.specs.Refusals.{mostClauseLines}
 use Rattle.text.specs.Lines.{lines}
-use Rattle.line.specs.Text.{bytes, sum}
-use Rattle.line.specs.Says.{inPlace, width, lengthFor, field}
+use Rattle.line.specs.Says.{says}
+use Rattle.line.specs.declared.Line.{Line}
+use Rattle.line.specs.declared.Line.the-variants.{Size, Clause, Count, Wrong}
 
 -- the lengths of the lent stores of start, step and bad, in masks
 pub record Rooms : Type 0 where
@@ -35,10 +35,6 @@ pub data Taken : Type 0 where
   on : Reading → Taken
   refuse : ℕ → Taken
 
--- the clause of a frame: two masks
-unfoldable pub clauseOf : ℕ → List ℕ → List ℕ
-clauseOf kind frame = field frame 1 (width kind) ∷ (field frame (1 + width kind) (width kind) ∷ [])
-
 -- room for one clause more
 unfoldable pub hasRoom : ℕ → List ℕ → Bool
 hasRoom room list = leb (length list + 2) room
@@ -61,38 +57,21 @@ withClause r kind clause =
       ]
     ]
 
--- A frame of a kind that is in place, of the right length. Refusal 12: clause line number 1,025, or no room left; 13: count wrong.
-unfoldable pub entered : Rooms → Reading → ℕ → List ℕ → Taken
-entered rooms r kind frame =
-    elim (eqb kind 0) [
-      | true ↦ on (record { stage = 1; n = getD frame 1 0; clauses = r .clauses; start = r .start; step = r .step; bad = r .bad })
-      | false ↦ elim (eqb kind 15) [
-        | true ↦ elim (eqb (field frame 1 2) (r .clauses)) [
-          | true ↦ on (record { stage = 16; n = r .n; clauses = r .clauses; start = r .start; step = r .step; bad = r .bad })
-          | false ↦ refuse 13
-        ]
-        | false ↦ elim (ltb (r .clauses) mostClauseLines && roomFor rooms r kind) [ true ↦ on (withClause r kind (clauseOf kind frame)) | false ↦ refuse 12 ]
-      ]
+-- Where it leads what a line says by itself. Refusal 12: clause line number 1,025, or no room left; 13: count wrong.
+abbrev pub takenAs : Rooms → Reading → Line → Taken
+takenAs rooms r (Size n) = on (record { stage = 1; n = n; clauses = r .clauses; start = r .start; step = r .step; bad = r .bad })
+takenAs rooms r (Clause kind ones zeros) =
+    elim (ltb (r .clauses) mostClauseLines && roomFor rooms r kind) [ true ↦ on (withClause r kind (ones ∷ (zeros ∷ []))) | false ↦ refuse 12 ]
+takenAs rooms r (Count count) =
+    elim (eqb count (r .clauses)) [
+      | true ↦ on (record { stage = 16; n = r .n; clauses = r .clauses; start = r .start; step = r .step; bad = r .bad })
+      | false ↦ refuse 13
     ]
+takenAs rooms r (Wrong number) = refuse number
 
--- A frame. Refusal 9: sum wrong; 10: kind unknown or out of place; 11: length wrong for the kind.
-unfoldable pub judged : Rooms → Reading → List ℕ → Taken
-judged rooms r frame =
-    elim (eqb (sum frame % 256) 0) [
-      | true ↦ elim (inPlace (r .stage) (getD frame 0 0)) [
-        | true ↦ elim (eqb (length frame) (lengthFor (getD frame 0 0))) [ true ↦ entered rooms r (getD frame 0 0) frame | false ↦ refuse 11 ]
-        | false ↦ refuse 10
-      ]
-      | false ↦ refuse 9
-    ]
-
--- A line. Refusal 8: not pairs of 0-9 A-F with a line feed, empty, or over 36 digits.
-unfoldable pub lineTaken : Rooms → Reading → List ℕ → Taken
-lineTaken rooms r line =
-    elim (bytes line) [
-      | none ↦ refuse 8
-      | some frame ↦ elim (eqb (length frame) 0 || ltb (mostDigits / 2) (length frame)) [ true ↦ refuse 8 | false ↦ judged rooms r frame ]
-    ]
+-- a line
+abbrev pub lineTaken : Rooms → Reading → List ℕ → Taken
+lineTaken rooms r line = takenAs rooms r (says line (r .stage))
 
 -- what a text says: everything that was read, or the refusal and its line
 pub data Said : Type 0 where
