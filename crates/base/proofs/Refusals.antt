@@ -1,5 +1,6 @@
--- The first refusal. One that applies is the first, whatever follows; where none is given, none applies. Assumes nothing.
-use Prim.Native.Nat.{ℕ, zero, suc}
+-- The first refusal. One that applies is the first, whatever follows; where none is given, none applies; and none is above the greatest number. Assumes
+-- nothing.
+use Prim.Native.Nat.{ℕ, zero, suc, _≤_}
 use mathlib.Core.Bool.{Bool, true, false}
 use mathlib.Core.Path.{_≡_, refl}
 use native.Mathlib.Omega.{arith}
@@ -20,3 +21,12 @@ else-none (suc a) b e = absurd (omega arith)
 pub if-none : (k : ℕ) (t : Bool) → suc k if t ≡ 0 → t ≡ false
 if-none k true e = absurd (omega arith)
 if-none k false e = refl
+
+-- no number above the greatest
+pub else-most : (k a b : ℕ) → a ≤ k → b ≤ k → (a else b) ≤ k
+else-most k zero b h l = l
+else-most k (suc a) b h l = h
+
+pub if-most : (k : ℕ) (t : Bool) → (k if t) ≤ k
+if-most k true = omega arith
+if-most k false = omega arith

@@ -14,7 +14,7 @@ use Rattle.base.proofs.Tests.{clash}
 use Rattle.base.specs.Refusals.{_if_}
 use Rattle.base.proofs.Refusals.{else-none, if-none}
 use Rattle.ic3.specs.Model.{Model}
-use Rattle.ic3.specs.Search.{Verdict, safe, unsafe, noRoom, spent, searched}
+use Rattle.ic3.specs.Search.{Verdict, safe, unsafe, gaveUp, searched}
 use Rattle.ic3.specs.Demands.{Doomed, Number}
 use Rattle.ic3.proofs.Sound.{demand-2}
 use Rattle.ic3.proofs.Bound.{demand-3}
@@ -60,16 +60,14 @@ module _ (s : Stores) (q : ℕ) where
   unfolding ended
   ended-answers (safe evidence) a = refl
   ended-answers (unsafe path) a = refl
-  ended-answers noRoom a = absurd a
-  ended-answers spent a = absurd a
+  ended-answers (gaveUp why) a = absurd a
 
   -- every ending reports the questions
   ended-questions : (v : Verdict) → ended s q v .questions ≡ q
   unfolding ended
   ended-questions (safe evidence) = refl
   ended-questions (unsafe path) = refl
-  ended-questions noRoom = refl
-  ended-questions spent = refl
+  ended-questions (gaveUp why) = refl
 
 -- a call asks no more than the bound, and with room and leave for that it does not give up
 pub called-within : (y : System) (s : Stores) (allowance m : ℕ) → Number (Doomed (model y)) m → Within y s allowance (called y s allowance) m
@@ -91,8 +89,7 @@ ended-right : (M : Model) (s : Stores) (q : ℕ) (v : Verdict) → Demand-2 M v 
 unfolding ended
 ended-right M s q (safe evidence) d = d
 ended-right M s q (unsafe path) d = d
-ended-right M s q spent d = tt
-ended-right M s q noRoom d = tt
+ended-right M s q (gaveUp why) d = tt
 
 -- something is said
 abbrev pub Speaks : Said → Type 0
@@ -161,8 +158,7 @@ ended-lengths : (s : Stores) (q : ℕ) (v : Verdict) → length (s .states) + 2 
 unfolding ended
 ended-lengths s q (safe evidence) h f = leaves-lengths s evidence [] f (omega arith)
 ended-lengths s q (unsafe path) h f = leaves-lengths s [] path (omega arith) (omega arith)
-ended-lengths s q spent h f = leaves-lengths s [] [] (omega arith) (omega arith)
-ended-lengths s q noRoom h f = leaves-lengths s [] [] (omega arith) (omega arith)
+ended-lengths s q (gaveUp why) h f = leaves-lengths s [] [] (omega arith) (omega arith)
 
 pub called-lengths : (y : System) (s : Stores) (allowance : ℕ) → Lengths s (called y s allowance .after)
 called-lengths y s allowance = pick (refused y s) refl
@@ -179,8 +175,7 @@ ended-evidence : (s : Stores) (q : ℕ) (v : Verdict) → FitsEnding (length (s 
 unfolding ended
 ended-evidence s q (safe evidence) f = omega (arith, f)
 ended-evidence s q (unsafe path) f = f
-ended-evidence s q spent f = omega arith
-ended-evidence s q noRoom f = omega arith
+ended-evidence s q (gaveUp why) f = omega arith
 
 pub called-evidence : (y : System) (s : Stores) (allowance : ℕ) → length (called y s allowance .evidence) ≤ length (s .states) + 2
 called-evidence y s allowance = pick (refused y s) refl

@@ -10,7 +10,7 @@ use Rattle.base.proofs.Tests.{clash}
 use Rattle.masks.specs.Bit.{bit, somewhere}
 use Rattle.masks.proofs.Somewhere.{somewhere-false}
 use Rattle.ic3.specs.Model.{least}
-use Rattle.ic3.specs.Search.{levelOf, put, states, R, wanted, Verdict, safe, unsafe, noRoom, spent, judge, round, tested, found, deeper, settled, fits, kept, react, next, searchFrom, searched}
+use Rattle.ic3.specs.Search.{levelOf, put, states, R, wanted, Verdict, safe, unsafe, gaveUp, judge, round, tested, found, deeper, settled, fits, kept, react, next, searchFrom, searched}
 use Rattle.system.specs.System.{System, literalTrue, clauseTrue, listTrue, pair, model, wrongSize, wrongCount, wrongBit, refusalOf}
 use Rattle.call.specs.Call.{Stores, Result, ended}
 use Rattle.call.specs.Sequencers.{Step, given, ring, ringGiven, late, lateGiven, chain, chainGiven, Given, Sequencer, sequencer, sequencers, Ends, Worked}
@@ -79,8 +79,7 @@ ends-same : (x : Sequencer) (s : Stores) (q : ℕ) (v : Verdict) → Ends x (end
 unfolding ended
 ends-same x s q (safe evidence) h = record { number = h .number; said = h .said; evidence = h .evidence; questions = h .questions }
 ends-same x s q (unsafe path) h = record { number = h .number; said = h .said; evidence = h .evidence; questions = h .questions }
-ends-same x s q spent h = record { number = h .number; said = h .said; evidence = h .evidence; questions = h .questions }
-ends-same x s q noRoom h = record { number = h .number; said = h .said; evidence = h .evidence; questions = h .questions }
+ends-same x s q (gaveUp why) h = record { number = h .number; said = h .said; evidence = h .evidence; questions = h .questions }
 
 each : (l : List Sequencer) → map computed l ≡ l → map (λ x. refusalOf (x .system)) l ≡ map (λ x. 0) l → Worked l
 each [] e a = tt

@@ -6,7 +6,7 @@ use lib.Dec.{eqb, ltb}
 use lib.ListN.{length}
 use Rattle.base.specs.Refusals.{_if_, _else_, mostStored}
 use Rattle.stores.specs.Over.{over}
-use Rattle.ic3.specs.Search.{Verdict, safe, unsafe, noRoom, spent, searched}
+use Rattle.ic3.specs.Search.{Why, noRoom, spent, Verdict, safe, unsafe, gaveUp, searched}
 use Rattle.system.specs.System.{System, model, refusalOf}
 
 -- the state store, the level store and the path store
@@ -46,12 +46,16 @@ leaves s front path = record { states = over front (s .states); levels = over []
 abbrev pub result : ℕ → Said → ℕ → List ℕ → Stores → Result
 result number said q evidence after = record { number = number; said = said; questions = q; evidence = evidence; after = after }
 
+-- the number of a search that gave up
+abbrev pub whyNumber : Why → ℕ
+whyNumber spent = 5
+whyNumber noRoom = 6
+
 -- The evidence is the front part of the state store after safe, of the path store after unsafe, and else the empty front of the state store.
 unfoldable pub ended : Stores → ℕ → Verdict → Result
 ended s q (safe evidence) = result 0 says-safe q evidence (leaves s evidence [])
 ended s q (unsafe path) = result 0 says-unsafe q path (leaves s [] path)
-ended s q spent = result 5 gives-up q [] (leaves s [] [])
-ended s q noRoom = result 6 gives-up q [] (leaves s [] [])
+ended s q (gaveUp why) = result (whyNumber why) gives-up q [] (leaves s [] [])
 
 -- THE CALL. The room is the length of the state store. A refusal reports zero questions and leaves the stores untouched.
 unfoldable pub called : System → Stores → ℕ → Result

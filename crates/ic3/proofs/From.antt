@@ -5,10 +5,10 @@ use mathlib.Core.List.{[]}
 use mathlib.Core.Path.{_≡_, refl}
 use native.Mathlib.Omega.{arith}
 use Rattle.ic3.specs.Model.{Model}
-use Rattle.ic3.specs.Search.{look, Config, at, Verdict, spent, Move, go, stop, next, Ending, searchFrom, searched}
+use Rattle.ic3.specs.Search.{look, Config, at, Verdict, gaveUp, spent, Move, go, stop, next, Ending, searchFrom, searched}
 
 module _ (M : Model) (room : ℕ) where
-  pub from-out : (c : Config) (q : ℕ) → searchFrom 0 M room c q ≡ record { verdict = spent; questions = q }
+  pub from-out : (c : Config) (q : ℕ) → searchFrom 0 M room c q ≡ record { verdict = gaveUp spent; questions = q }
   unfolding searchFrom
   from-out c q = refl
 
@@ -27,7 +27,7 @@ module _ (M : Model) (room allowance : ℕ) (P : Config → ℕ → Type 0) (Q :
   Turned q (go d) = P d q
   Turned q (stop v) = Q v q
 
-  pub from-keeps : ((c : Config) (q : ℕ) → P c q → Turned (suc q) (next M room c)) → ((c : Config) → P c allowance → Q spent allowance)
+  pub from-keeps : ((c : Config) (q : ℕ) → P c q → Turned (suc q) (next M room c)) → ((c : Config) → P c allowance → Q (gaveUp spent) allowance)
       → (left : ℕ) (c : Config) (q : ℕ) → left + q ≡ allowance → P c q
       → Q (searchFrom left M room c q .verdict) (searchFrom left M room c q .questions)
   unfolding searchFrom
@@ -42,7 +42,7 @@ module _ (M : Model) (room allowance : ℕ) (P : Config → ℕ → Type 0) (Q :
       pick (go d) t r = r d t
       pick (stop v) t r = t
 
-  pub searched-keeps : ((c : Config) (q : ℕ) → P c q → Turned (suc q) (next M room c)) → ((c : Config) → P c allowance → Q spent allowance)
+  pub searched-keeps : ((c : Config) (q : ℕ) → P c q → Turned (suc q) (next M room c)) → ((c : Config) → P c allowance → Q (gaveUp spent) allowance)
       → P (at 0 [] look) 0 → Q (searched M room allowance .verdict) (searched M room allowance .questions)
   unfolding searched
   searched-keeps turn over p = from-keeps turn over allowance (at 0 [] look) 0 (omega arith) p

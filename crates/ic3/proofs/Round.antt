@@ -11,7 +11,7 @@ use borrow.Author.Tests.{eqb-true, eqb-false, eq-eqb, ne-eqb}
 use lib.Dec.{eqb, leb}
 use lib.ListN.{length}
 use Rattle.base.proofs.Tests.{test, clash}
-use Rattle.ic3.specs.Search.{Entry, levelOf, states, look, raise, at, safe, noRoom, Move, go, stop, judge, round, tested, settled, fits, kept}
+use Rattle.ic3.specs.Search.{Entry, levelOf, states, look, raise, at, safe, gaveUp, noRoom, Move, go, stop, judge, round, tested, settled, fits, kept}
 use Rattle.ic3.specs.Shape.{Tidy}
 use Rattle.ic3.specs.Demands.{listed}
 use Rattle.ic3.proofs.Store.{fits-true, fits-false, listed-head, listed-other, states-listed, states-split, states-length}
@@ -98,7 +98,7 @@ module _ (P : Move → Type 0) (N : ℕ) (st : List Entry) where
 
 -- Where a duty was settled: the search goes on, or the store has outgrown the room.
 pub kept-lands : (P : Move → Type 0) (room N : ℕ) (st : List Entry) (k : ℕ) (ds : List ℕ) → (length st ≤ room → P (go (settled N st k ds)))
-    → (room < length st → P (stop noRoom)) → P (kept room N st k ds)
+    → (room < length st → P (stop (gaveUp noRoom))) → P (kept room N st k ds)
 unfolding kept
 kept-lands P room N st k ds f g =
     test (fits room st)

@@ -8,7 +8,7 @@ use lib.ListN.{length}
 use Rattle.ic3.specs.Theorems.{Demand-2, Answered}
 use Rattle.base.proofs.Tests.{clash}
 use Rattle.ic3.specs.Model.{Model}
-use Rattle.ic3.specs.Search.{Entry, look, settle, Config, at, Verdict, safe, unsafe, noRoom, spent, Move, go, stop, next, Ending, searchFrom, searched}
+use Rattle.ic3.specs.Search.{Entry, look, settle, Config, at, Verdict, safe, unsafe, gaveUp, Move, go, stop, next, Ending, searchFrom, searched}
 use Rattle.ic3.specs.Shape.{Placed}
 use Rattle.ic3.specs.Demands.{Reach, starts, steps, IsPath, Doomed, Number}
 use Rattle.ic3.proofs.Frames.{leads-state}
@@ -33,8 +33,7 @@ module _ (M : Model) (no-start : (s : ℕ) → s < M .size → M .start s ≡ fa
       pick : (v : Verdict) → Demand-2 M v → Answered v → (evidence : List ℕ) × (v ≡ safe evidence)
       pick (safe evidence) d a = (evidence, refl)
       pick (unsafe path) d a = absurd (no-path path (d .real))
-      pick noRoom d a = absurd a
-      pick spent d a = absurd a
+      pick (gaveUp why) d a = absurd a
 
 -- The path is t, then the states of the open duties from level 1 up to N, so N + 1 states.
 pub path-states : (N : ℕ) (st : List Entry) (s : ℕ) (ds : List ℕ) (t : ℕ) → Placed N st (settle 0 s ds) → length (t ∷ (s ∷ ds)) ≡ suc N

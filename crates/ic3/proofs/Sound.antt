@@ -13,7 +13,7 @@ use Rattle.ic3.specs.Theorems.{Demand-2}
 use Rattle.ic3.specs.Answers.{Least, Answers}
 use Rattle.base.proofs.Tests.{test, clash, both, first-false}
 use Rattle.ic3.specs.Model.{Model, least}
-use Rattle.ic3.specs.Search.{Entry, levelOf, put, states, R, Phase, look, settle, raise, Config, at, wanted, Verdict, spent, Move, go, stop, settled, tested, found, deeper, react, next, searched}
+use Rattle.ic3.specs.Search.{Entry, levelOf, put, states, R, Phase, look, settle, raise, Config, at, wanted, Verdict, gaveUp, spent, Move, go, stop, settled, tested, found, deeper, react, next, searched}
 use Rattle.ic3.specs.Shape.{Tidy, Sits, Placed}
 use Rattle.ic3.specs.Demands.{Leads, listed, Safe, Doomed}
 use Rattle.ic3.proofs.Least.{least-answers}
@@ -230,7 +230,7 @@ module _ (M : Model) where
 
     pub search-keeps : ((N : ℕ) (st : List Entry) (ph : Phase) (o : Option ℕ) (q : ℕ) → Kept N st → Stands N st ph
         → Answers (M .size) (wanted M N st ph) o → C N st ph q → Then (suc q) (react room N st ph o))
-        → ((N : ℕ) (st : List Entry) (ph : Phase) → Kept N st → Stands N st ph → C N st ph allowance → Q spent allowance)
+        → ((N : ℕ) (st : List Entry) (ph : Phase) → Kept N st → Stands N st ph → C N st ph allowance → Q (gaveUp spent) allowance)
         → C 0 [] look 0 → Q (searched M room allowance .verdict) (searched M room allowance .questions)
     unfolding next
     search-keeps turn over begin =

@@ -4,7 +4,7 @@ use mathlib.Core.Bool.{true}
 use mathlib.Core.List.{List, [], _∷_}
 use mathlib.Core.Path.{_≡_}
 use Rattle.ic3.specs.Model.{Model}
-use Rattle.ic3.specs.Search.{Verdict, safe, unsafe, noRoom, spent}
+use Rattle.ic3.specs.Search.{Verdict, safe, unsafe, gaveUp}
 use Rattle.ic3.specs.Demands.{Reach}
 
 -- s is reached within k steps
@@ -28,5 +28,4 @@ Canonical M (s ∷ xs) = LeastFrom M 0 s xs
 abbrev pub CanonicalPath : Model → Verdict → Type 0
 CanonicalPath M (safe evidence) = Unit {0}
 CanonicalPath M (unsafe path) = Canonical M path
-CanonicalPath M noRoom = Unit {0}
-CanonicalPath M spent = Unit {0}
+CanonicalPath M (gaveUp why) = Unit {0}

@@ -57,12 +57,16 @@ wanted M N st look s = R M (levelOf st) N s && M .bad s
 wanted M N st (settle k t ds) s = R M (levelOf st) k s && M .step s t
 wanted M N st (raise i t todo) s = R M (levelOf st) i s && M .step s t
 
--- how a search ends: safe with the excluded states, unsafe with the path, or given up, with 6 or with 5
+-- why a search gives up: no room for a further state, or the allowance used up
+pub data Why : Type 0 where
+  noRoom : Why
+  spent : Why
+
+-- how a search ends: safe with the excluded states, unsafe with the path, or given up
 pub data Verdict : Type 0 where
   safe : List ℕ → Verdict
   unsafe : List ℕ → Verdict
-  noRoom : Verdict
-  spent : Verdict
+  gaveUp : Why → Verdict
 
 -- what an answer leads to
 pub data Move : Type 0 where
@@ -105,7 +109,7 @@ unfoldable pub fits : ℕ → List Entry → Bool
 fits room st = leb (length st) room
 
 unfoldable pub kept : ℕ → ℕ → List Entry → ℕ → List ℕ → Move
-kept room N st k ds = elim (fits room st) [ true ↦ go (settled N st k ds) | false ↦ stop noRoom ]
+kept room N st k ds = elim (fits room st) [ true ↦ go (settled N st k ds) | false ↦ stop (gaveUp noRoom) ]
 
 -- The answer taken in. With no bad state N grows by 1 and step 4 begins; with none that steps to s, s gets its level.
 unfoldable pub react : ℕ → ℕ → List Entry → Phase → Option ℕ → Move
@@ -127,7 +131,7 @@ pub record Ending : Type 0 where
 
 -- The search from c, which `asked` questions led to. Before each ask, if the allowance, of which `left` is left, is used up, it ends.
 unfoldable pub searchFrom : ℕ → Model → ℕ → Config → ℕ → Ending
-searchFrom zero M room c asked = record { verdict = spent; questions = asked }
+searchFrom zero M room c asked = record { verdict = gaveUp spent; questions = asked }
 searchFrom (suc left) M room c asked =
     elim (next M room c) [ go d ↦ searchFrom left M room d (suc asked) | stop v ↦ record { verdict = v; questions = suc asked } ]
 

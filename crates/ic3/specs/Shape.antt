@@ -4,7 +4,7 @@ use Prim.Native.Nat.{ℕ, suc, _+_, _≤_, _<_}
 use mathlib.Core.List.{List, [], _∷_}
 use mathlib.Core.Path.{_≡_}
 use lib.ListN.{length}
-use Rattle.ic3.specs.Search.{Entry, levelOf, Phase, look, settle, raise, Config, Verdict, safe, unsafe, noRoom, spent, Move, go, stop}
+use Rattle.ic3.specs.Search.{Entry, levelOf, Phase, look, settle, raise, Config, Verdict, safe, unsafe, gaveUp, Move, go, stop}
 
 -- each level is at least 1, and no state is stored twice
 abbrev pub Tidy : List Entry → Type 0
@@ -41,8 +41,7 @@ pub record Shape (room : ℕ) (c : Config) : Type 0 where
 abbrev pub FitsEnding : ℕ → Verdict → Type 0
 FitsEnding room (safe evidence) = length evidence ≤ room
 FitsEnding room (unsafe path) = length path ≤ room + 2
-FitsEnding room noRoom = Unit {0}
-FitsEnding room spent = Unit {0}
+FitsEnding room (gaveUp why) = Unit {0}
 
 -- where an answer leads
 abbrev pub Shaped : ℕ → Move → Type 0

@@ -2,22 +2,20 @@
 use Prim.Native.Nat.{ℕ, _+_, _*_, _≤_}
 use mathlib.Core.Path.{_≡_}
 use Rattle.ic3.specs.Model.{Model}
-use Rattle.ic3.specs.Search.{Verdict, safe, unsafe, noRoom, spent, searched}
+use Rattle.ic3.specs.Search.{Verdict, safe, unsafe, gaveUp, searched}
 use Rattle.ic3.specs.Demands.{Safe, Unsafe, Doomed, Number}
 
 -- demand 2, of a verdict
 abbrev pub Demand-2 : Model → Verdict → Type 0
 Demand-2 M (safe evidence) = Safe M evidence
 Demand-2 M (unsafe path) = Unsafe M path
-Demand-2 M noRoom = Unit {0}
-Demand-2 M spent = Unit {0}
+Demand-2 M (gaveUp why) = Unit {0}
 
 -- a verdict, no giving up
 abbrev pub Answered : Verdict → Type 0
 Answered (safe evidence) = Unit {0}
 Answered (unsafe path) = Unit {0}
-Answered noRoom = ⊥
-Answered spent = ⊥
+Answered (gaveUp why) = ⊥
 
 -- One search never asks more than `most` questions, and with room for m states and leave to ask that many it never gives up.
 pub record Bounded (M : Model) (m most : ℕ) : Type 0 where

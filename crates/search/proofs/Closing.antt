@@ -9,12 +9,13 @@ use lib.ListN.{length, getD, take, drop}
 use lib.Seq.{drop-cons, length-take-le}
 use Rattle.stores.proofs.Over.{over-same, over-front}
 use Rattle.ic3.specs.Search.{states}
-use Rattle.call.specs.Call.{Stores, gives-up, result, leaves, ended}
-use Rattle.search.specs.Lent.{storeOf, part, verdictOf}
+use Rattle.call.specs.Call.{Stores, whyNumber, leaves, ended}
+use Rattle.search.specs.Lent.{storeOf, part, whyOf}
 use Rattle.call.specs.Promise.{stores}
 use Rattle.search.specs.Contracts.{Finishes, Closes}
+use Rattle.search.specs.declared.react.Why.{Why}
 use Rattle.search.specs.declared.react.Verdict.{Verdict}
-use Rattle.search.specs.declared.react.Verdict.the-variants.{Safe, Unsafe}
+use Rattle.search.specs.declared.react.Verdict.the-variants.{Safe, Unsafe, GaveUp}
 use Rattle.call.specs.declared.Outcome.{Outcome}
 use Rattle.call.specs.declared.Outcome.the-variants as call
 
@@ -29,7 +30,7 @@ part-drop (suc left) i xs h = rw (drop-cons xs i 0 (omega arith)) (ap (λ l. get
 pub part-take : (k : ℕ) (xs : List ℕ) → k ≤ length xs → part k 0 xs ≡ take k xs
 part-take k xs h = part-drop k 0 xs (omega arith)
 
--- ---- the four verdicts
+-- ---- the verdicts
 pub stores-same : {ss ss' ls ls' path path' : List ℕ} → ss ≡ ss' → ls ≡ ls' → path ≡ path' → stores ss ls path ≡ stores ss' ls' path'
 stores-same a l p = rw (a, l, p)
 
@@ -73,13 +74,12 @@ module _ (s : Stores) (v : Verdict) (asked : ℕ) where
       }
 
   -- given up, with a number of its own: nothing is left
-  pub closes-given-up : (t : Verdict) (number : ℕ) → v ≡ t
-      → ended s asked (verdictOf t s) ≡ result number gives-up asked [] (leaves s [] [])
+  pub closes-given-up : (why : Why) (number : ℕ) → v ≡ GaveUp why → number ≡ whyNumber (whyOf why)
       → Closable s v asked (s .states) 0 0 (call.GaveUp number asked)
-  unfolding leaves
-  closes-given-up t number q h =
+  unfolding ended leaves
+  closes-given-up why number q h =
       record {
         same = refl;
         finishes = record { states = omega arith; path = omega arith };
-        closes = λ after e. rw q (record { equation = rw h (rw e); evidence-length = rw h });
+        closes = λ after e. rw q (record { equation = rw (h, e); evidence-length = refl });
       }

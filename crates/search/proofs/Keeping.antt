@@ -18,7 +18,8 @@ use Rattle.search.specs.Lent.{window, storeOf, duties, config}
 use Rattle.search.specs.Contracts.{Absent, FirstAt, KeptAs, Moves}
 use Rattle.search.specs.declared.store.Kept.the-variants.{At, Full}
 use Rattle.search.specs.declared.react.Phase.the-variants.{Look, Settle}
-use Rattle.search.specs.declared.react.Verdict.the-variants.{NoRoom}
+use Rattle.search.specs.declared.react.Why.the-variants.{NoRoom}
+use Rattle.search.specs.declared.react.Verdict.the-variants.{GaveUp}
 use Rattle.search.specs.declared.react.Move.{Move}
 use Rattle.search.specs.declared.react.Move.the-variants.{Go, Stop}
 use Rattle.search.proofs.Windows.{window-length, window-apart, duties-more, duties-end}
@@ -133,6 +134,6 @@ unfolding kept
 kept-fits room N k st now ds r s f e g = rw (f, kept) (rw e at g)
 
 -- what does not fit ends the search
-pub kept-not : (room N k : ℕ) (st : List Entry) (ds : List ℕ) (s : Stores) → fits room st ≡ false → Moves (Stop NoRoom) s (kept room N st k ds)
+pub kept-not : (room N k : ℕ) (st : List Entry) (ds : List ℕ) (s : Stores) → fits room st ≡ false → Moves (Stop (GaveUp NoRoom)) s (kept room N st k ds)
 unfolding kept
 kept-not room N k st ds s f = record { onward = rw (f, kept); bounded = tt }

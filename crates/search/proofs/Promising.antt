@@ -6,7 +6,7 @@ use mathlib.Core.List.{List, []}
 use mathlib.Core.Path.{_≡_, refl, sym, ap, _∙_}
 use lib.ListN.{length}
 use Rattle.stores.proofs.Over.{over-same}
-use Rattle.ic3.specs.Search.{safe, unsafe, noRoom, spent, searched}
+use Rattle.ic3.specs.Search.{safe, unsafe, gaveUp, searched}
 use Rattle.ic3.specs.Search as ic3
 use Rattle.ic3.proofs.Bound.{demand-3}
 use Rattle.system.specs.System.{System, model, refusalOf}
@@ -37,8 +37,7 @@ module _ (s s' : Stores) (w : Lengths s s') where
   unfolding ended
   ended-same q (safe evidence) = rw (leaves-same evidence [])
   ended-same q (unsafe path) = rw (leaves-same [] path)
-  ended-same q noRoom = rw (leaves-same [] [])
-  ended-same q spent = rw (leaves-same [] [])
+  ended-same q (gaveUp why) = rw (leaves-same [] [])
 
 -- what `close` requires, since a run keeps the stores' lengths
 pub ends-closing : {n room : ℕ} {ending : ic3.Ending} {v : Verdict} {asked : ℕ} {s : Stores} → Ends n room ending v asked s → Closing v s

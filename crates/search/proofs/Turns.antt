@@ -18,7 +18,8 @@ use Rattle.call.proofs.Call.{Lengths}
 use Rattle.search.specs.Lent.{storeOf, window, config, configOf}
 use Rattle.search.specs.Contracts.{Asks, Raises, Lends, Ready, Moves, Begins, Ends}
 use Rattle.search.specs.declared.react.Verdict.{Verdict}
-use Rattle.search.specs.declared.react.Verdict.the-variants.{Spent}
+use Rattle.search.specs.declared.react.Why.the-variants.{Spent}
+use Rattle.search.specs.declared.react.Verdict.the-variants.{GaveUp}
 use Rattle.search.specs.declared.react.Phase.{Phase}
 use Rattle.search.specs.declared.react.Phase.the-variants.{Look, Raise}
 use Rattle.search.specs.declared.react.Config.{Config}
@@ -111,7 +112,7 @@ module _ {y : System} {allowance : ℕ} {s₀ : Stores} {ending : ic3.Ending} {c
 
 -- the allowance is used up
 pub running-spent : {y : System} {allowance : ℕ} {s₀ : Stores} {ending : ic3.Ending} {c : Config} {asked : ℕ} {s : Stores}
-    → Running y allowance s₀ ending c asked s → allowance ≤ asked → Ends (y .n) (length (s₀ .states)) ending Spent asked s
+    → Running y allowance s₀ ending c asked s → allowance ≤ asked → Ends (y .n) (length (s₀ .states)) ending (GaveUp Spent) asked s
 running-spent {y} {allowance} {s₀} {c = c} {asked} {s} w h =
     let none : allowance - asked ≡ 0 = omega arith in
     let all = sym (rw none at (w .rest)) ∙ from-out (model y) (length (s₀ .states)) (configOf c s) asked in

@@ -18,7 +18,7 @@ use Rattle.search.specs.declared.react.Phase.{Phase}
 use Rattle.search.specs.declared.react.Phase.the-variants.{Look, Settle, Raise}
 use Rattle.search.specs.declared.react.Config.{Config}
 use Rattle.search.specs.declared.react.Verdict.{Verdict}
-use Rattle.search.specs.declared.react.Verdict.the-variants.{Safe, Unsafe, NoRoom, Spent}
+use Rattle.search.specs.declared.react.Verdict.the-variants.{Safe, Unsafe, GaveUp}
 use Rattle.search.specs.declared.react.Move.{Move}
 use Rattle.search.specs.declared.react.Move.the-variants.{Go, Stop}
 
@@ -83,8 +83,7 @@ Indexed (Raise i j) count = j < count
 abbrev pub Counted : Verdict → Stores → Type 0
 Counted (Safe i count) s = count ≤ length (s .levels)
 Counted (Unsafe k) s = k ≤ length (s .path)
-Counted NoRoom s = Unit {0}
-Counted Spent s = Unit {0}
+Counted (GaveUp why) s = Unit {0}
 
 abbrev pub Bounded : Move → Stores → Type 0
 Bounded (Go c) s = Indexed (c .phase) (c .count)

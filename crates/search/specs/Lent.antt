@@ -5,14 +5,16 @@ use Prim.Native.Nat.{ℕ, zero, suc, _-_}
 use mathlib.Core.List.{List, [], _∷_}
 use lib.Dec.{eqb, leb}
 use lib.ListN.{getD}
-use Rattle.ic3.specs.Search.{Entry, look, settle, raise, at, safe, unsafe, noRoom, spent, go, stop, states}
+use Rattle.ic3.specs.Search.{Entry, look, settle, raise, at, noRoom, spent, safe, unsafe, gaveUp, go, stop, states}
 use Rattle.ic3.specs.Search as ic3
 use Rattle.call.specs.Call.{Stores}
 use Rattle.search.specs.declared.react.Phase.{Phase}
 use Rattle.search.specs.declared.react.Phase.the-variants.{Look, Settle, Raise}
 use Rattle.search.specs.declared.react.Config.{Config}
+use Rattle.search.specs.declared.react.Why.{Why}
+use Rattle.search.specs.declared.react.Why.the-variants.{NoRoom, Spent}
 use Rattle.search.specs.declared.react.Verdict.{Verdict}
-use Rattle.search.specs.declared.react.Verdict.the-variants.{Safe, Unsafe, NoRoom, Spent}
+use Rattle.search.specs.declared.react.Verdict.the-variants.{Safe, Unsafe, GaveUp}
 use Rattle.search.specs.declared.react.Move.{Move}
 use Rattle.search.specs.declared.react.Move.the-variants.{Go, Stop}
 
@@ -45,11 +47,14 @@ phaseOf (Raise i j) N count s = raise i (getD (s .states) j 0) (states (eqb i) (
 abbrev pub configOf : Config → Stores → ic3.Config
 configOf c s = at (c .N) (storeOf (c .count) (s .states) (s .levels)) (phaseOf (c .phase) (c .N) (c .count) s)
 
+abbrev pub whyOf : Why → ic3.Why
+whyOf NoRoom = noRoom
+whyOf Spent = spent
+
 abbrev pub verdictOf : Verdict → Stores → ic3.Verdict
 verdictOf (Safe i count) s = safe (states (leb i) (storeOf count (s .states) (s .levels)))
 verdictOf (Unsafe length) s = unsafe (part length 0 (s .path))
-verdictOf NoRoom s = noRoom
-verdictOf Spent s = spent
+verdictOf (GaveUp why) s = gaveUp (whyOf why)
 
 abbrev pub moveOf : Move → Stores → ic3.Move
 moveOf (Go c) s = go (configOf c s)

@@ -9,12 +9,14 @@ mod turn;
 ghost use mathlib.Core.Path.{_≡_};
 ghost use lib.ListN.{take};
 ghost use Rattle.system.specs.System.{systemOf};
-ghost use Rattle.call.specs.Call.{leaves};
+ghost use Rattle.call.specs.Call.{whyNumber, leaves};
 ghost use Rattle.call.specs.Promise.{stores, Promised};
+ghost use Rattle.search.specs.Lent.{whyOf};
 ghost use Rattle.search.specs.Contracts.{Finishes, Closing, Closes};
 use react::Config;
 use react::Phase;
 use react::Verdict;
+use react::Why;
 use store::keep;
 use turn::Ending;
 use turn::all_turns;
@@ -31,6 +33,16 @@ fn finish(states: &mut [u64], levels: &mut [u32], path: &mut [u64], front: usize
     stores::clear_behind(states, front);
     stores::clear_levels(levels);
     stores::clear_behind(path, len);
+}
+
+// The number of a search that gave up.
+fn number(why: Why) -> u32
+    ensures { λ r. ⌜ r ≡ whyNumber (whyOf why) ⌝ }
+{
+    match why {
+        Why::Spent => 5,
+        Why::NoRoom => 6,
+    }
 }
 
 // The stores are left with the evidence alone.
@@ -55,10 +67,9 @@ fn close(states: &mut [u64], levels: &mut [u32], path: &mut [u64], ending: Endin
             len = k;
             outcome = call::Outcome::Unsafe(k, questions);
         }
-        Verdict::NoRoom => {
-            outcome = call::Outcome::GaveUp(6, questions);
+        Verdict::GaveUp(why) => {
+            outcome = call::Outcome::GaveUp(number(why), questions);
         }
-        Verdict::Spent => {}
     }
     finish(states, levels, path, front, len);
     outcome

@@ -32,13 +32,17 @@ pub(super) struct Config {
     pub(super) phase: Phase,
 }
 
-// How a search ends: safe, with the level from which on states are excluded and the number stored; unsafe, with the path's length; no room; or
-// the allowance used up.
+// Why a search gives up: no room for a further state, or the allowance used up.
+pub(super) enum Why {
+    NoRoom,
+    Spent,
+}
+
+// How a search ends: safe, with the level from which on states are excluded and the number stored; unsafe, with the path's length; or given up.
 pub(super) enum Verdict {
     Safe(u32, usize),
     Unsafe(usize),
-    NoRoom,
-    Spent,
+    GaveUp(Why),
 }
 
 // What an answer leads to.
@@ -128,7 +132,7 @@ pub(super) fn blocked(
     let r = store(states, levels, count, s, k + 1);
     match r {
         Kept::At(c) => settled(N, c, k),
-        Kept::Full => Move::Stop(Verdict::NoRoom),
+        Kept::Full => Move::Stop(Verdict::GaveUp(Why::NoRoom)),
     }
 }
 

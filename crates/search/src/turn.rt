@@ -16,6 +16,7 @@ use super::react::Config;
 use super::react::Move;
 use super::react::Phase;
 use super::react::Verdict;
+use super::react::Why;
 use super::react::blocked;
 use super::react::deeper;
 use super::react::found;
@@ -214,7 +215,7 @@ pub(super) fn all_turns(
         }
     }
     Ending {
-        verdict: Verdict::Spent,
+        verdict: Verdict::GaveUp(Why::Spent),
         questions: asked,
     }
 }

@@ -9,7 +9,7 @@ pub const NEITHER: u64 = 2;
 
 // What is counted, by its place: systems by their bits, less 1, and by the kind of their steps; systems with something special; what was said; sums; how
 // the calls ended; a digest of all calls in turn; and what is not as the walk says or as it must be.
-const PLACES: usize = 45;
+pub const PLACES: usize = 45;
 
 const KINDS: usize = 10;
 
@@ -82,7 +82,7 @@ pub struct Seen {
     pub digest: u64,
 }
 
-pub fn count(counts: &mut [u64; 45], at: usize, more: u64) {
+pub fn count(counts: &mut [u64; PLACES], at: usize, more: u64) {
     let j = at % PLACES;
     counts[j] = std::num::wrapping_add_u64(counts[j], more);
 }
@@ -99,7 +99,7 @@ pub fn most(m: usize) -> u32 {
 }
 
 // What is special about a system.
-pub fn enter_system(counts: &mut [u64; 45], n: u32, kind: u64, k: Known) {
+pub fn enter_system(counts: &mut [u64; PLACES], n: u32, kind: u64, k: Known) {
     count(counts, std::num::wrapping_sub_u32(n, 1) as usize, 1);
     count(counts, KINDS + (kind % 8) as usize, 1);
     count(counts, NO_START, one(k.starts == 0));
@@ -115,7 +115,7 @@ pub fn enter_system(counts: &mut [u64; 45], n: u32, kind: u64, k: Known) {
 }
 
 // The first call of a system, with room m and allowance 3(m+2)(m+2), against the walk.
-fn enter_first(counts: &mut [u64; 45], k: Known, seen: Seen) {
+fn enter_first(counts: &mut [u64; PLACES], k: Known, seen: Seen) {
     let reached = k.steps != small_systems::NEVER;
     let wanted = std::num::wrapping_add_u32(k.steps, 1) as usize;
     let unsafe_said = seen.said == UNSAFE;
@@ -144,7 +144,7 @@ fn same(a: Seen, b: Seen) -> bool {
 
 // A later call of the system. With the allowance that was used it is the first again, and with one less it ends with 5. With less room it is the
 // first again, or ends with 6.
-fn enter_later(counts: &mut [u64; 45], turn: u64, first: Seen, seen: Seen) {
+fn enter_later(counts: &mut [u64; PLACES], turn: u64, first: Seen, seen: Seen) {
     if turn == 1 || seen.number == 0 {
         count(counts, OTHER, one(!same(first, seen)));
         return;
@@ -156,7 +156,7 @@ fn enter_later(counts: &mut [u64; 45], turn: u64, first: Seen, seen: Seen) {
 }
 
 // What each call adds.
-fn enter_call(counts: &mut [u64; 45], seen: Seen) {
+fn enter_call(counts: &mut [u64; PLACES], seen: Seen) {
     count(counts, CALLS, 1);
     count(counts, SPENT, one(seen.number == 5));
     count(counts, NO_ROOM, one(seen.number == 6));
@@ -164,7 +164,7 @@ fn enter_call(counts: &mut [u64; 45], seen: Seen) {
 }
 
 // A turn's call entered.
-pub fn enter(counts: &mut [u64; 45], k: Known, turn: u64, first: Seen, seen: Seen) {
+pub fn enter(counts: &mut [u64; PLACES], k: Known, turn: u64, first: Seen, seen: Seen) {
     enter_call(counts, seen);
     if turn == 0 {
         enter_first(counts, k, seen);
@@ -174,7 +174,7 @@ pub fn enter(counts: &mut [u64; 45], k: Known, turn: u64, first: Seen, seen: See
 }
 
 // Names of equal width, each with its number behind it.
-fn lines(counts: &[u64; 45], first: usize, names: &[u8]) {
+fn lines(counts: &[u64; PLACES], first: usize, names: &[u8]) {
     let mut j = first;
     let mut at = 0;
     while at < names.len() {
@@ -191,7 +191,7 @@ fn lines(counts: &[u64; 45], first: usize, names: &[u8]) {
     }
 }
 
-fn write_systems(counts: &[u64; 45]) {
+fn write_systems(counts: &[u64; PLACES]) {
     lines(
         counts,
         0,
@@ -219,7 +219,7 @@ fn write_systems(counts: &[u64; 45]) {
     );
 }
 
-fn write_calls(counts: &[u64; 45]) {
+fn write_calls(counts: &[u64; PLACES]) {
     lines(
         counts,
         23,
@@ -247,7 +247,7 @@ fn write_calls(counts: &[u64; 45]) {
     );
 }
 
-pub fn write(counts: &[u64; 45]) {
+pub fn write(counts: &[u64; PLACES]) {
     write_systems(counts);
     write_calls(counts);
 }

@@ -74,7 +74,7 @@ fn walk(said: u64, n: u32, table: &[bool], list: &[u64]) -> bool {
 
 // The evidence given to both. Where nothing was said there is none, and nothing to accept.
 fn accept(
-    counts: &mut [u64; 45],
+    counts: &mut [u64; counts::PLACES],
     said: u64,
     n: u32,
     start: &[u64],
@@ -151,7 +151,7 @@ fn see(o: call::Outcome, list: &[u64]) -> counts::Seen {
 
 // A call, looked at from every side.
 fn run(
-    counts: &mut [u64; 45],
+    counts: &mut [u64; counts::PLACES],
     n: u32,
     start: &[u64],
     step: &[u64],
@@ -176,7 +176,7 @@ fn run(
 
 // A call with stores of the planned room.
 fn lend(
-    counts: &mut [u64; 45],
+    counts: &mut [u64; counts::PLACES],
     n: u32,
     start: &[u64],
     step: &[u64],
@@ -285,7 +285,7 @@ fn next_plan(p: Plan, m: usize, turn: u64, first: counts::Seen, seen: counts::Se
 
 // All calls of a system: at most 3, and 11 to find the least room.
 fn calls(
-    counts: &mut [u64; 45],
+    counts: &mut [u64; counts::PLACES],
     n: u32,
     start: &[u64],
     step: &[u64],
@@ -320,7 +320,7 @@ fn calls(
 
 // One system.
 fn trial(
-    counts: &mut [u64; 45],
+    counts: &mut [u64; counts::PLACES],
     table: &mut [bool],
     n: u32,
     kind: u64,
@@ -335,7 +335,7 @@ fn trial(
 }
 
 // System number i.
-fn system(counts: &mut [u64; 45], table: &mut [bool], i: u64, shape: u64) {
+fn system(counts: &mut [u64; counts::PLACES], table: &mut [bool], i: u64, shape: u64) {
     let mut start = [0u64; 2048];
     let mut step = [0u64; 8192];
     let mut bad = [0u64; 2048];
@@ -357,7 +357,7 @@ fn system(counts: &mut [u64; 45], table: &mut [bool], i: u64, shape: u64) {
 }
 
 fn main() {
-    let mut counts = [0u64; 45];
+    let mut counts = [0u64; counts::PLACES];
     let mut table = [false; 1050624];
     let mut seed = SEED;
     let mut i = 0;

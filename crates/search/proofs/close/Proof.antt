@@ -2,7 +2,6 @@
 -- `finish` clears the rest. Assumes nothing.
 use Prim.Native.Nat.{_≤_}
 use mathlib.Core.Logic.{⊎-elim}
-use mathlib.Core.Path.{refl}
 use native.Mathlib.Omega.{arith}
 use borrow.Author.Needs.{needs}
 use lib.ListN.{length}
@@ -34,9 +33,7 @@ closable m =
     (⊎-elim
     (λ w. let e = w .1 .given in
     rw (w .3, w .4, w .5, w .6) (closes-unsafe _ _ _ _ (e .1) (rw (e .1) at (s .pre .counted))))
-    (⊎-elim
-    (λ w. rw (w .2, w .3, w .4, w .5) (closes-given-up _ _ _ _ _ (w .1 .given .1) refl))
-    (λ w. rw (w .2, w .3, w .4, w .5) (closes-given-up _ _ _ _ _ (w .1 .given .1) refl))))
+    (λ w. rw (w .4, w .5, w .6, w .7) (closes-given-up _ _ _ _ _ (w .1 .given .1) (w .3 .ensures))))
     (m .match .came)
 
 finish-requires : tie.Need-finish-requires
