@@ -210,6 +210,11 @@ def texts():
             step = but(no_step, low | low << 32)
             bad = but([s for s in states if random.random() < 0.8], low)
         yield [(1, file(n, start, step, bad))]
+    # no start state: a clause of two zero masks, and a bit that is to be 0 and 1
+    for n in 1, 2, 9:
+        yield [(1, file(n, [(0, 0)], [], []))]
+        yield [(1, file(n, [(0, 1), (1, 0)], [], [(1, 0)]))]
+    yield [(1, file(2, [(0, 1), (0, 2), (2, 0)], RING, [(1, 0), (2, 0)]))]
     # no room for a new state: 2,047 bad states, and no step
     yield [(1, file(11, [(0, 1 << p) for p in range(11)], [(0, 0)], [(0x7FF, 0)]))]
 

@@ -116,7 +116,7 @@ def main():
     kinds += ["steps to the next", "to the next and itself", "steps down", "a counter's steps"]
     names += kinds + ["no start state", "no bad state", "all states bad", "bad states not reached", "states without a next"]
     names += ["safe", "unsafe", "states excluded", "states in paths", "sum of m", "sum of questions", "sum of rooms used", "longest path"]
-    names += ["calls", "room m sufficed", "calls that gave 5", "calls that gave 6", "digest of all calls"]
+    names += ["calls", "room m sufficed", "calls that gave 5", "calls that gave 6", "calls that gave 14", "digest of all calls"]
     counts = dict.fromkeys(names, 0)
     x, d = 0x9E3779B97F4A7C15, 0
     for i in range(SYSTEMS):
@@ -148,8 +148,10 @@ def main():
 
         number, said, evidence, asked, used = first = call(m, most)
         # the walk
-        assert number == 0 and said == bool(hit) and asked <= most
-        if hit:
+        assert asked <= most and (number, said) == ((0, bool(hit)) if start else (14, 2))
+        if not start:
+            assert (evidence, asked, used) == ([], 1, 0)
+        elif hit:
             assert len(evidence) == min(hit) + 1 and evidence[0] in starts and evidence[-1] in bad
             assert all(e in steps for e in zip(evidence, evidence[1:]))
         else:
@@ -178,12 +180,12 @@ def main():
             "all states bad": len(bad) == 2**n,
             "bad states not reached": bool(bad) and not hit,
             "states without a next": not all(on),
-            "unsafe" if hit else "safe": 1,
+            "unsafe" if hit else "safe": bool(start),
             "states in paths" if hit else "states excluded": len(evidence),
             "sum of m": m,
             "sum of questions": asked,
             "sum of rooms used": used,
-            "room m sufficed": 1,
+            "room m sufficed": bool(start),
         }.items():
             counts[name] += more
         if hit:

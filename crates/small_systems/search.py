@@ -6,7 +6,7 @@ class Over(Exception):
 
 
 class Search:
-    """Steps 1 to 5 of the scope, over sets of states: `before[t]` has the states that step to t, in order, and `bad` the bad ones."""
+    """The search of the scope, over sets of states: `before[t]` has the states that step to t, in order, and `bad` the bad ones."""
 
     def __init__(self, start, before, bad, room, allowance):
         self.start, self.before, self.bad = start, before, bad
@@ -53,6 +53,8 @@ class Search:
             return over.args[0], 2, []
 
     def answer(self):
+        if self.ask(self.start, 0) is None:
+            raise Over(14)
         s = self.ask(self.bad, 0)
         if s is not None:
             return 1, [s]

@@ -8,7 +8,7 @@ use native.Mathlib.Omega.{arith}
 use borrow.Author.Tests.{ne-eqb, le-ltb}
 use lib.ListN.{length, take}
 use Rattle.base.proofs.Tests.{test}
-use Rattle.ic3.specs.Search.{noRoom, spent, Verdict, safe, unsafe, gaveUp}
+use Rattle.ic3.specs.Search.{noRoom, spent, noStart, Verdict, safe, unsafe, gaveUp}
 use Rattle.ic3.specs.Demands.{listed}
 use Rattle.system.specs.System.{System, wrongSize, wrongCount, wrongBit, refusalOf}
 use Rattle.call.specs.Call.{Stores, wrongStores, refused, ended, called}
@@ -56,6 +56,7 @@ ended-number s q (safe evidence) = refl
 ended-number s q (unsafe path) = refl
 ended-number s q (gaveUp noRoom) = refl
 ended-number s q (gaveUp spent) = refl
+ended-number s q (gaveUp noStart) = refl
 
 pub file-number : (text : List ℕ) (r : Reading) → said clauseRooms text ≡ file r → FromFile (called (systemIn r) scanStores 1000000 .number)
 unfolding listed

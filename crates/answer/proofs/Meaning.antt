@@ -10,7 +10,7 @@ use Rattle.ic3.specs.Demands.{Safe, Unsafe}
 use Rattle.system.specs.System.{model}
 use Rattle.call.specs.Call.{Stores, Said, says-safe, says-unsafe, gives-up, refuses, result, called}
 use Rattle.call.specs.Promise.{Right}
-use Rattle.call.proofs.Call.{called-right}
+use Rattle.call.proofs.Call.{Speaks, called-right, called-starts}
 use Rattle.house.specs.File.{Reading, file, refused, said}
 use Rattle.house.specs.File as house
 use Rattle.answer.specs.Output.{letter, digits, lineOf}
@@ -26,6 +26,13 @@ Tells says-safe a = a ≡ 56
 Tells says-unsafe a = a ≡ 57
 Tells gives-up a = 65 ≤ a
 Tells refuses a = 65 ≤ a
+
+-- a verdict's digit is told only where something is said
+speaks : (said : Said) (a : ℕ) → a < 65 → Tells said a → Speaks said
+speaks says-safe a h t = tt
+speaks says-unsafe a h t = tt
+speaks gives-up a h t = absurd (omega arith)
+speaks refuses a h t = absurd (omega arith)
 
 refusal-tells : (a number line : ℕ) → Begins a 48 (refusalLine number line) → 65 ≤ a
 unfolding refusalLine lineOf digits letter
@@ -82,7 +89,15 @@ module _ (text : List ℕ) where
           let c = called y scanStores 1000000 in
           let t = call-tells a (c .said) _ _ _ _ (rw (answered-file r e) at h) in
           let u = told (model y) (c .said) _ _ (c .evidence) _ t (called-right y scanStores 1000000) in
-          record { reading = r; read = e; questions = c .questions; evidence = c .evidence; lines = answered-file r e ∙ u .0; right = u .1 }
+          record {
+            reading = r;
+            read = e;
+            questions = c .questions;
+            evidence = c .evidence;
+            lines = answered-file r e ∙ u .0;
+            start = called-starts y scanStores 1000000 (speaks (c .said) a low t);
+            right = u .1;
+          }
 
   -- the promise, out of what was written
   pub answers : {before : List ℕ} {r : ℕ} {after : List ℕ} → Writes 0 (answered text) before r after → Answers text before r after

@@ -17,7 +17,7 @@ stateLines kind (s ∷ states) = lineOf (kind ∷ four s) ++ stateLines kind sta
 unfoldable pub verdictLines : ℕ → ℕ → List ℕ → List ℕ
 verdictLines kind questions evidence = lineOf (kind ∷ (four questions ++ four (length evidence))) ++ stateLines (suc kind) evidence
 
--- A0 with 5 or 6 (one byte) and questions (four)
+-- A0 with 5, 6 or 14 (one byte) and questions (four)
 unfoldable pub gaveUpLine : ℕ → ℕ → List ℕ
 gaveUpLine number questions = lineOf (160 ∷ (one number ++ four questions))
 

@@ -29,4 +29,4 @@ ringFile =
     ∷ ("0F000AE7" ∷ []))))))))))))
 
 abbrev pub ringAnswer : List ℕ
-ringAnswer = text ("8000000005000000017A" ∷ ("81000000037C" ∷ []))
+ringAnswer = text ("80000000060000000179" ∷ ("81000000037C" ∷ []))

@@ -7,7 +7,7 @@ use lib.ListN.{take}
 use Rattle.base.specs.Refusals.{scanAllowance}
 use Rattle.text.specs.Writing.{Writes}
 use Rattle.ic3.specs.Model.{Model}
-use Rattle.ic3.specs.Demands.{Safe, Unsafe, listed}
+use Rattle.ic3.specs.Demands.{Safe, Unsafe, HasStart, listed}
 use Rattle.system.specs.System.{model}
 use Rattle.call.specs.Call.{called}
 use Rattle.call.specs.Promise.{stores, resultOf}
@@ -25,18 +25,20 @@ Begins a b [] = ⊥
 Begins a b (x ∷ []) = ⊥
 Begins a b (x ∷ (y ∷ rest)) = (x ≡ a) × (y ≡ b)
 
--- The text is a house file, the answer's lines are a verdict of this kind, and the states in them are right evidence for the file's system.
+-- The text is a house file, the answer's lines are a verdict of this kind, the file's system has a start state, and the states in the lines are right
+-- evidence for it.
 pub record Shows (text : List ℕ) (kind : ℕ) (Right : Model → List ℕ → Type 0) : Type 0 where
   pub reading : Reading
   pub read : said clauseRooms text ≡ file reading
   pub questions : ℕ
   pub evidence : List ℕ
   pub lines : answered text ≡ verdictLines kind questions evidence
+  pub start : HasStart (model (systemIn reading))
   pub right : Right (model (systemIn reading)) evidence
 
 -- the numbers that a file can bring about
 abbrev pub FromFile : ℕ → Type 0
-FromFile number = listed (0 ∷ (1 ∷ (3 ∷ (5 ∷ (6 ∷ []))))) number ≡ true
+FromFile number = listed (0 ∷ (1 ∷ (3 ∷ (5 ∷ (6 ∷ (14 ∷ [])))))) number ≡ true
 
 -- The answer lies in front of the buffer, as far as that reaches, and its whole length is returned, which is 13,359 bytes at most. What stands behind
 -- the first 37,999 bytes of the text does not matter. Two bytes hold the line of a refusal, and no file is refused with 2 or 4. If the answer begins

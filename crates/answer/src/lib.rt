@@ -108,7 +108,7 @@ fn put_verdict(out: &mut [u8], kind: u8, questions: u32, evidence: &[u64]) -> us
     put_states(out, next, kind + 1, evidence)
 }
 
-// Given up, with 5 or 6.
+// Given up, with 5, 6 or 14.
 fn put_gave_up(out: &mut [u8], number: u32, questions: u32) -> usize
     ensures { λ r. ⌜ Writes 0 (gaveUpLine number questions) (now (out .entry)) r (now (out .exit)) ⌝ }
 {

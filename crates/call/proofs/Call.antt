@@ -1,28 +1,30 @@
--- The call, case by case; that it has one result; demands 3 and 2 of it, which are the search's, since number, verdict and questions are; and that
--- every store keeps its length, since evidence is never longer than the room and a path by at most two. Assumes nothing.
+-- The call, case by case; that it has one result; demands 3 and 2 of it and what its first question shows, which are the search's, since number, verdict
+-- and questions are; and that every store keeps its length, since evidence is never longer than the room and a path by at most two. Assumes nothing.
 use Prim.Native.Nat.{ℕ, zero, suc, _+_, _≤_}
 use mathlib.Core.Bool.{Bool, true, false, not, _||_}
 use mathlib.Core.List.{List, []}
+use mathlib.Core.Logic.{_↔_}
 use mathlib.Core.Path.{_≡_, refl, sym, _∙_}
 use native.Mathlib.Omega.{arith}
 use borrow.Author.Tests.{eqb-true, ltb-false}
 use lib.Dec.{eqb, ltb}
 use lib.ListN.{length}
-use Rattle.ic3.specs.Theorems.{Demand-2, Answered}
+use Rattle.ic3.specs.Theorems.{Demand-2, Answered, Started}
 use Rattle.stores.proofs.Over.{over-length}
 use Rattle.base.proofs.Tests.{clash}
-use Rattle.base.specs.Refusals.{_if_}
-use Rattle.base.proofs.Refusals.{else-none, if-none}
+use Rattle.base.specs.Refusals.{_if_, _else_}
+use Rattle.base.proofs.Refusals.{else-none, else-most, if-none, if-most}
 use Rattle.ic3.specs.Model.{Model}
-use Rattle.ic3.specs.Search.{Verdict, safe, unsafe, gaveUp, searched}
-use Rattle.ic3.specs.Demands.{Doomed, Number}
+use Rattle.ic3.specs.Search.{noRoom, spent, noStart, Verdict, safe, unsafe, gaveUp, searched}
+use Rattle.ic3.specs.Demands.{HasStart, NoStart, Doomed, Number}
 use Rattle.ic3.proofs.Sound.{demand-2}
 use Rattle.ic3.proofs.Bound.{demand-3}
+use Rattle.ic3.proofs.Start.{started}
 use Rattle.ic3.specs.Shape.{FitsEnding}
 use Rattle.ic3.proofs.Shape.{ending-fits}
-use Rattle.system.specs.System.{System, model, refusalOf}
+use Rattle.system.specs.System.{System, model, wrongSize, wrongCounts, wrongBits, refusalOf}
 use Rattle.call.specs.Call.{Stores, wrongStores, refused, Said, says-safe, says-unsafe, gives-up, refuses, Result, result, leaves, ended, called}
-use Rattle.call.specs.Promise.{Right, Within}
+use Rattle.call.specs.Promise.{Right, Within, StartAsked}
 
 -- the system's own refusals come first
 pub refused-system : (y : System) (s : Stores) (r : ℕ) → refusalOf y ≡ suc r → refused y s ≡ suc r
@@ -80,9 +82,60 @@ called-within y s allowance m D = pick (refused y s) refl
         rw (called-searches y s allowance e)
         (record {
           few = rw (ended-questions s _ _) (b .few room allowance);
-          answers = λ z f g. ended-answers s _ _ (b .answers room allowance f g);
+          answers = λ z h f g. ended-answers s _ _ (b .answers h room allowance f g);
         })
-    pick (suc r) e = rw (called-refused y s allowance r e) (record { few = omega arith; answers = λ z f g. absurd (omega arith) })
+    pick (suc r) e = rw (called-refused y s allowance r e) (record { few = omega arith; answers = λ z h f g. absurd (omega arith) })
+
+-- ---- the question for a start state
+-- a start state where there is none
+not-both : (M : Model) {A : Type 0} → HasStart M → NoStart M → A
+not-both M h n = clash (h .starts) (n (h .state) (h .inside))
+
+module _ (M : Model) (allowance : ℕ) (s : Stores) (q : ℕ) where
+  -- which ending has the number 14
+  ended-14 : (v : Verdict) → Started M allowance v → (ended s q v .number ≡ 14) ↔ ((1 ≤ allowance) × NoStart M)
+  unfolding ended
+  ended-14 (safe evidence) w = (λ e. absurd (omega arith), λ n. not-both M w (n .1))
+  ended-14 (unsafe path) w = (λ e. absurd (omega arith), λ n. not-both M w (n .1))
+  ended-14 (gaveUp noRoom) w = (λ e. absurd (omega arith), λ n. not-both M w (n .1))
+  ended-14 (gaveUp spent) w = (λ e. absurd (omega arith), λ n. not-both M (w (n .0)) (n .1))
+  ended-14 (gaveUp noStart) w = (λ e. w, λ n. refl)
+
+  -- a verdict's ending has seen a start state
+  ended-start : (v : Verdict) → Started M allowance v → ended s q v .number ≡ 0 → HasStart M
+  unfolding ended
+  ended-start (safe evidence) w e = w
+  ended-start (unsafe path) w e = w
+  ended-start (gaveUp noRoom) w e = absurd (omega arith)
+  ended-start (gaveUp spent) w e = absurd (omega arith)
+  ended-start (gaveUp noStart) w e = absurd (omega arith)
+
+-- no refusal of a call is above 4
+refused-few : (y : System) (s : Stores) → refused y s ≤ 4
+unfolding refused refusalOf
+refused-few y s =
+    let a = wrongSize (y .n) in
+    let b = wrongCounts (y .start) (y .step) (y .bad) in
+    let c = wrongBits (y .n) (y .start) (y .step) (y .bad) in
+    let own : (1 if a else 2 if b else 3 if c) ≤ 4 = else-most 4 (1 if a) (2 if b else 3 if c) (omega (arith, if-most 1 a))
+    (else-most 4 (2 if b) (3 if c) (omega (arith, if-most 2 b)) (omega (arith, if-most 3 c))) in
+    else-most 4 (1 if a else 2 if b else 3 if c) (4 if wrongStores s) own (if-most 4 (wrongStores s))
+
+pub called-asks : (y : System) (s : Stores) (allowance : ℕ) → StartAsked y s allowance (called y s allowance)
+called-asks y s allowance = pick (refused y s) refl
+  where
+    pick : (r : ℕ) → refused y s ≡ r → StartAsked y s allowance (called y s allowance)
+    pick zero e =
+        let w = started (model y) (length (s .states)) allowance in
+        let f = ended-14 (model y) allowance s _ _ w in
+        rw (called-searches y s allowance e)
+        (record { none = (λ n. (e, f .0 n .0, f .0 n .1), λ n. f .1 (n .1, n .2)); verdict = ended-start (model y) allowance s _ _ w })
+    pick (suc r) e =
+        rw (called-refused y s allowance r e)
+        (record {
+          none = (λ n. absurd (omega (arith, refused-few y s)), λ n. absurd (omega (arith, n .0)));
+          verdict = λ n. absurd (omega arith);
+        })
 
 -- ---- demand 2
 ended-right : (M : Model) (s : Stores) (q : ℕ) (v : Verdict) → Demand-2 M v → Right M (ended s q v .said) (ended s q v .evidence)
@@ -113,6 +166,22 @@ module _ (y : System) (s : Stores) (allowance : ℕ) where
     where
       pick : (r : ℕ) → refused y s ≡ r → refusalOf y ≡ 0
       pick zero e = refused-none y s e .0
+      pick (suc r) e = absurd (rw (called-refused y s allowance r e) at f)
+
+  -- and a system that has a start state
+  pub called-starts : Speaks (called y s allowance .said) → HasStart (model y)
+  unfolding ended
+  called-starts f = pick (refused y s) refl
+    where
+      seen : (q : ℕ) (v : Verdict) → Started (model y) allowance v → Speaks (ended s q v .said) → HasStart (model y)
+      seen q (safe evidence) w g = w
+      seen q (unsafe path) w g = w
+      seen q (gaveUp why) w g = absurd g
+
+      pick : (r : ℕ) → refused y s ≡ r → HasStart (model y)
+      pick zero e =
+          let ending = searched (model y) (length (s .states)) allowance in
+          seen (ending .questions) (ending .verdict) (started (model y) (length (s .states)) allowance) (rw (called-searches y s allowance e) at f)
       pick (suc r) e = absurd (rw (called-refused y s allowance r e) at f)
 
 -- ---- lengths

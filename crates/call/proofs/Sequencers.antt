@@ -10,7 +10,7 @@ use Rattle.base.proofs.Tests.{clash}
 use Rattle.masks.specs.Bit.{bit, somewhere}
 use Rattle.masks.proofs.Somewhere.{somewhere-false}
 use Rattle.ic3.specs.Model.{least}
-use Rattle.ic3.specs.Search.{levelOf, put, states, R, wanted, Verdict, safe, unsafe, gaveUp, judge, round, tested, found, deeper, settled, fits, kept, react, next, searchFrom, searched}
+use Rattle.ic3.specs.Search.{levelOf, put, states, R, wanted, Verdict, safe, unsafe, gaveUp, judge, round, tested, found, deeper, settled, fits, kept, react, next, searchFrom, begun, searched}
 use Rattle.system.specs.System.{System, literalTrue, clauseTrue, listTrue, pair, model, wrongSize, wrongCount, wrongBit, refusalOf}
 use Rattle.call.specs.Call.{Stores, Result, ended}
 use Rattle.call.specs.Sequencers.{Step, given, ring, ringGiven, late, lateGiven, chain, chainGiven, Given, Sequencer, sequencer, sequencers, Ends, Worked}
@@ -67,13 +67,13 @@ abbrev computed : Sequencer → Sequencer
 computed x = let r = searching x in sequencer (x .system) (x .room) (x .allowance) (r .number) (r .said) (r .evidence) (r .questions)
 
 -- THE COMPUTATION: the list is what comes out of it, and none of its systems is refused
-table : map computed sequencers ≡ sequencers
-unfolding bit somewhere literalTrue clauseTrue listTrue pair model least levelOf put states R wanted judge round tested found deeper settled fits kept react next searchFrom searched ended
-table = refl
+table : (any : ℕ) → map computed (sequencers any) ≡ sequencers any
+unfolding bit somewhere literalTrue clauseTrue listTrue pair model least levelOf put states R wanted judge round tested found deeper settled fits kept react next searchFrom begun searched ended
+table any = refl
 
-accepted : map (λ x. refusalOf (x .system)) sequencers ≡ map (λ x. 0) sequencers
+accepted : (any : ℕ) → map (λ x. refusalOf (x .system)) (sequencers any) ≡ map (λ x. 0) (sequencers any)
 unfolding wrongSize wrongCount wrongBit refusalOf
-accepted = refl
+accepted any = refl
 
 ends-same : (x : Sequencer) (s : Stores) (q : ℕ) (v : Verdict) → Ends x (ended nothing q v) → Ends x (ended s q v)
 unfolding ended
@@ -96,5 +96,5 @@ each (x ∷ l) e a =
       each l (cc) (cc),
     )
 
-pub worked : Worked sequencers
-worked = each sequencers table accepted
+pub worked : (any : ℕ) → Worked (sequencers any)
+worked any = each (sequencers any) (table any) (accepted any)

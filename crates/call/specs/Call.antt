@@ -6,7 +6,7 @@ use lib.Dec.{eqb, ltb}
 use lib.ListN.{length}
 use Rattle.base.specs.Refusals.{_if_, _else_, mostStored}
 use Rattle.stores.specs.Over.{over}
-use Rattle.ic3.specs.Search.{Why, noRoom, spent, Verdict, safe, unsafe, gaveUp, searched}
+use Rattle.ic3.specs.Search.{Why, noRoom, spent, noStart, Verdict, safe, unsafe, gaveUp, searched}
 use Rattle.system.specs.System.{System, model, refusalOf}
 
 -- the state store, the level store and the path store
@@ -50,6 +50,7 @@ result number said q evidence after = record { number = number; said = said; que
 abbrev pub whyNumber : Why → ℕ
 whyNumber spent = 5
 whyNumber noRoom = 6
+whyNumber noStart = 14
 
 -- The evidence is the front part of the state store after safe, of the path store after unsafe, and else the empty front of the state store.
 unfoldable pub ended : Stores → ℕ → Verdict → Result

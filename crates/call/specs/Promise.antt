@@ -1,11 +1,12 @@
 -- What the public search promises: the equation with the call's definition, and demands 2 and 3 for the system given.
 use Prim.Native.Nat.{ℕ, _+_, _*_, _≤_}
 use mathlib.Core.List.{List}
+use mathlib.Core.Logic.{_↔_}
 use mathlib.Core.Path.{_≡_}
 use denote.Ref.{RefT, ptr, now}
 use lib.ListN.{length, take}
 use Rattle.ic3.specs.Model.{Model}
-use Rattle.ic3.specs.Demands.{Doomed, Number}
+use Rattle.ic3.specs.Demands.{HasStart, NoStart, Doomed, Number}
 use Rattle.ic3.specs.Demands as demands
 use Rattle.system.specs.System.{System, model}
 use Rattle.call.specs.Call.{Stores, refused, Said, says-safe, says-unsafe, gives-up, refuses, Result, result, called}
@@ -70,11 +71,18 @@ Right M refuses evidence = Unit {0}
 -- demand 3, of a call: m is the number of states that are no start state and lead to a bad one
 pub record Within (y : System) (lent : Stores) (allowance : ℕ) (r : Result) (m : ℕ) : Type 0 where
   pub few : r .questions ≤ 3 * ((m + 2) * (m + 2))
-  pub answers : refused y lent ≡ 0 → m ≤ length (lent .states) → 3 * ((m + 2) * (m + 2)) ≤ allowance → r .number ≡ 0
+  pub answers : refused y lent ≡ 0 → HasStart (model y) → m ≤ length (lent .states) → 3 * ((m + 2) * (m + 2)) ≤ allowance → r .number ≡ 0
+
+-- the question for a start state, of a call: it ends with 14 exactly if nothing is refused, there is leave to ask and no start state; and with a verdict
+-- only if there is a start state
+pub record StartAsked (y : System) (lent : Stores) (allowance : ℕ) (r : Result) : Type 0 where
+  pub none : (r .number ≡ 14) ↔ ((refused y lent ≡ 0) × (1 ≤ allowance) × NoStart (model y))
+  pub verdict : r .number ≡ 0 → HasStart (model y)
 
 pub record Promised (y : System) (lent : Stores) (allowance : ℕ) (o : Outcome) (after : Stores) : Type 0 where
   pub equation : resultOf o after ≡ called y lent allowance
   pub evidence-length : countOf o ≡ length (called y lent allowance .evidence)
   pub demand-2 : Right (model y) (saidOf o) (evidenceOf o (after .states) (after .path))
   pub demand-3 : (m : ℕ) → Number (Doomed (model y)) m → Within y lent allowance (resultOf o after) m
+  pub start-asked : StartAsked y lent allowance (resultOf o after)
   pub exists-m : (m : ℕ) × Number (Doomed (model y)) m

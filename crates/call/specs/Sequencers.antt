@@ -83,6 +83,10 @@ emptyLists = record { n = 2; start = []; step = ringSteps; bad = [] }
 abbrev pub badFalse : System
 badFalse = starting ringSteps (0 ∷ (0 ∷ []))
 
+-- Ring with I one clause of two zero masks: no start state
+abbrev pub noStart : System
+noStart = record { n = 2; start = 0 ∷ (0 ∷ []); step = ringSteps; bad = three }
+
 -- the system has start {0}, bad {3} and the steps given, and no others
 pub record Given (y : System) (steps : List Step) : Type 0 where
   pub start : (s : ℕ) → s < 4 → model y .start s ≡ eqb s 0
@@ -114,19 +118,21 @@ sequencer y room allowance number said evidence questions =
 abbrev pub latePath : List ℕ
 latePath = 0 ∷ (1 ∷ (2 ∷ (3 ∷ [])))
 
--- room 4 and allowance 1,000 where the scope names none
-abbrev pub sequencers : List Sequencer
-sequencers =
-    sequencer ring 4 1000 0 says-safe (3 ∷ []) 5
-    ∷ (sequencer late 4 1000 0 says-unsafe latePath 16
-    ∷ (sequencer late 2 1000 0 says-unsafe latePath 16
-    ∷ (sequencer late 1 1000 6 gives-up [] 8
-    ∷ (sequencer late 4 16 0 says-unsafe latePath 16
-    ∷ (sequencer late 4 15 5 gives-up [] 15
+-- room 4 and allowance 1,000 where the scope names none, and any room where it says so
+abbrev pub sequencers : ℕ → List Sequencer
+sequencers any =
+    sequencer ring 4 1000 0 says-safe (3 ∷ []) 6
+    ∷ (sequencer late 4 1000 0 says-unsafe latePath 17
+    ∷ (sequencer late 2 1000 0 says-unsafe latePath 17
+    ∷ (sequencer late 1 1000 6 gives-up [] 9
+    ∷ (sequencer late 4 17 0 says-unsafe latePath 17
+    ∷ (sequencer late 4 16 5 gives-up [] 16
     ∷ (sequencer late 4 0 5 gives-up [] 0
-    ∷ (sequencer chain 4 1000 0 says-safe (3 ∷ (1 ∷ (2 ∷ []))) 25
-    ∷ (sequencer emptyLists 4 1000 0 says-unsafe (0 ∷ []) 1
-    ∷ (sequencer badFalse 4 1000 0 says-safe [] 2 ∷ [])))))))))
+    ∷ (sequencer chain 4 1000 0 says-safe (3 ∷ (1 ∷ (2 ∷ []))) 26
+    ∷ (sequencer emptyLists 4 1000 0 says-unsafe (0 ∷ []) 2
+    ∷ (sequencer badFalse 4 1000 0 says-safe [] 3
+    ∷ (sequencer noStart any 1000 14 gives-up [] 1
+    ∷ (sequencer noStart any 0 5 gives-up [] 0 ∷ [])))))))))))
 
 -- the call ends so
 pub record Ends (x : Sequencer) (r : Result) : Type 0 where

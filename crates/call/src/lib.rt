@@ -3,8 +3,8 @@ ghost use mathlib.Core.Path.{_≡_};
 ghost use Rattle.call.specs.Call.{wrongStores};
 ghost use Rattle.call.specs.Promise.{stores, numberOf, questionsOf, HandedBack};
 
-// How a call ended: safe or unsafe, with the number of evidence states; given up, with 5 or 6; or refused, with 1 to 4. What was searched has the count
-// of questions asked behind it.
+// How a call ended: safe or unsafe, with the number of evidence states; given up, with 5, 6 or 14; or refused, with 1 to 4. What was searched has the
+// count of questions asked behind it.
 pub enum Outcome {
     Safe(usize, u32),
     Unsafe(usize, u32),

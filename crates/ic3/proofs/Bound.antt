@@ -1,4 +1,4 @@
--- Demand 3. There is exactly one m (Number), and with it the exact bound holds (Exact), which is the smaller: 2 m m + 2 m + 1 and 2 are at most
+-- Demand 3. There is exactly one m (Number), and with it the exact bound holds (Exact), which is the smaller: 2 m m + 2 m + 2 and 3 are at most
 -- 3 (m + 2) (m + 2), and what holds with a bound holds with a greater one. Assumes nothing.
 use Prim.Native.Nat.{ℕ, _+_, _*_, _≤_}
 use native.Mathlib.Omega.{arith}
@@ -16,7 +16,7 @@ bound M m D =
     let l : exact m ≤ 3 * ((m + 2) * (m + 2)) = omega (arith, mul-add (m + 2) m 2, add-mul m 2 m) in
     record {
       few = λ room allowance. omega (arith, b .few room allowance);
-      answers = λ room allowance h g. b .answers room allowance h (omega arith);
+      answers = λ s room allowance h g. b .answers s room allowance h (omega arith);
     }
 
 pub demand-3 : (M : Model) → Demand-3 M

@@ -11,7 +11,7 @@ use lib.ListN.{length}
 use Rattle.ic3.specs.Answers.{Least, Answers}
 use Rattle.base.proofs.Tests.{clash, first-false}
 use Rattle.ic3.specs.Model.{Model}
-use Rattle.ic3.specs.Search.{Entry, levelOf, put, R, Phase, look, settle, raise, wanted, Move, go, settled, tested, found, deeper, kept, react, searched}
+use Rattle.ic3.specs.Search.{Entry, levelOf, put, R, Phase, look, settle, raise, wanted, Move, go, settled, tested, found, deeper, kept, react, begun, searched}
 use Rattle.ic3.specs.Demands.{Reach, starts, steps, Leads, Unsafe}
 use Rattle.ic3.specs.Canonical.{Within, LeastFrom, Canonical, CanonicalPath}
 use Rattle.ic3.proofs.Least.{order}
@@ -85,7 +85,8 @@ module _ (M : Model) where
 
     -- the path of every search is canonical
     pub path-canonical : CanonicalPath M (searched M room allowance .verdict)
-    path-canonical = search-keeps M room allowance C (λ v q. CanonicalPath M v) react-least (λ N st ph K w c. tt) tt
+    unfolding begun searched
+    path-canonical = search-keeps M room allowance C (λ v q. CanonicalPath M v) react-least (λ N st ph K w c. tt) (λ e. tt) (λ l n. tt) (λ h. tt)
 
   within-now : {k s : ℕ} → Reach M k s → Within M k s
   within-now {k} r = record { distance = k; few = omega arith; reach = r }

@@ -6,7 +6,7 @@ use mathlib.Core.Path.{_≡_, refl, sym, _∙_}
 use native.Mathlib.Omega.{arith}
 use Rattle.base.proofs.Tests.{clash}
 use Rattle.ic3.specs.Model.{least}
-use Rattle.ic3.specs.Search.{levelOf, put, states, R, wanted, judge, round, settled, tested, found, deeper, fits, kept, react, next, searchFrom, searched}
+use Rattle.ic3.specs.Search.{levelOf, put, states, R, wanted, judge, round, settled, tested, found, deeper, fits, kept, react, next, searchFrom, begun, searched}
 use Rattle.ic3.specs.Demands.{listed, Doomed, Number}
 use Rattle.ic3.specs.Exact.{chain, Met}
 use Rattle.ic3.proofs.Store.{listed-other}
@@ -42,5 +42,5 @@ chain-number =
     outside (suc (suc (suc (suc s)))) h e = absurd (omega arith)
 
 pub chain-meets : Met
-unfolding searched searchFrom next react found deeper fits kept settled tested round judge wanted R least levelOf put states
+unfolding searched begun searchFrom next react found deeper fits kept settled tested round judge wanted R least levelOf put states
 chain-meets = record { m = chain-number; evidence = refl; asked = refl; most = refl }

@@ -1,5 +1,5 @@
 -- The exact bound, from which demand 3 follows (Bound). By the account, N ≤ m, fewer than m states were stored at the end of the last round, and
--- the sum of the levels is at most N for each stored state; so one question more stays within 2 m m + 2 m + 1, or within 2 where nothing is
+-- the sum of the levels is at most N for each stored state; so one question more stays within 2 m m + 2 m + 2, or within 3 where nothing is
 -- doomed. Assumes nothing.
 use Prim.Native.Nat.{ℕ, zero, suc, _+_, _*_, _-_, _≤_}
 use mathlib.Core.Bool.{true}
@@ -63,18 +63,18 @@ module _ (M : Model) (m : ℕ) (D : Number (Doomed M) m) where
       let f : suc (c .before) ≤ m = before-few n st duties q K c h in
       let l : suc n ≤ m = omega (arith, c .fewer) in
       let z : suc n + (m - suc n) ≡ m = omega arith in
-      let x : suc q ≤ 2 * (m * m) + 2 * m + 1 = rw z at (opened-sum n (m - suc n) (c .before) (length st) (total st) (length (c .done)) duties q
+      let x : suc q ≤ 2 * (m * m) + 2 * m + 2 = rw z at (opened-sum n (m - suc n) (c .before) (length st) (total st) (length (c .done)) duties q
       (omega arith) (omega (arith, stored-few M m D (suc n) st (K .tidy) (c .sown))) (done-few M m D n st duties q (K .tidy) c)
       (total-low (suc n) st (K .tidy) (level-low M (suc n) st K)) b (c .few)) in
       omega arith
 
-  -- with no doomed state there are two questions
+  -- with no doomed state there are three questions
   none-more : (n : ℕ) (st : List Entry) (q : ℕ) → Kept M (suc n) st → Opened M n st 0 q → m ≡ 0 → suc q ≤ exact m
   none-more n st q K c h =
       let l : length st ≤ 0 = omega (arith, stored-few M m D (suc n) st (K .tidy) (c .sown)) in
       let y : n * c .before ≤ 0 * 0 = mul-le-mul {n₂ = 0} {m₂ = 0} (omega (arith, c .fewer, c .grown)) (omega (arith, c .grown)) in
       let x : suc n * length st ≤ 1 * 0 = mul-le-mul {n₂ = 1} {m₂ = 0} (omega (arith, c .fewer, c .grown)) l in
-      let z : suc q ≤ 2 = omega (
+      let z : suc q ≤ 3 = omega (
         arith,
         c .few,
         c .fewer,
@@ -90,7 +90,7 @@ module _ (M : Model) (m : ℕ) (D : Number (Doomed M) m) where
       let h : 1 ≤ m = doomed-some s (tested-sown M m N st i s todo w q c .doomed) in
       let l : length st ≤ m = stored-few M m D N st (K .tidy) (c .sown) in
       let z : N + (m - N) ≡ m = omega (arith, c .enough) in
-      let x : suc q ≤ 2 * (m * m) + 2 * m + 1 = rw z at (pushed-sum N (m - N) (length st) (total st) (length (states (leb (suc N)) st))
+      let x : suc q ≤ 2 * (m * m) + 2 * m + 2 = rw z at (pushed-sum N (m - N) (length st) (total st) (length (states (leb (suc N)) st))
       (length (s ∷ todo) + length (states (leb (suc i)) st)) q (omega arith) (total-cap N st (K .tidy) (level-low M (suc N) st K))
       (omega (arith, states-fall (suc i) (suc N) (w .below) st)) (c .few)) in
       omega arith
@@ -109,4 +109,4 @@ module _ (M : Model) (m : ℕ) (D : Number (Doomed M) m) where
 
   -- THE BOUND
   pub exact-bound : Bounded M m (exact m)
-  exact-bound = bounded M m (exact m) (C M) one-more (react-exact M m D) (refl, refl)
+  exact-bound = bounded M m (exact m) (C M) one-more (react-exact M m D) (omega arith) (refl, refl)

@@ -5,8 +5,8 @@
 -- finds no gap some state keeps level 1, so a state that is not stored steps to it; step 2 finds nothing at the next N only if that one has
 -- been stored too: each further round stores a further state, and N ≤ m. With T the sum of the levels, σ the number stored now, p that number
 -- at the end of the last round, n = N - 1 and `done` the states settled at this N:
---   in steps 2 and 3              q + n n ≤ 1 + 2 n + T + 2 n p + |done| + open duties
---   in step 4 after N rounds      q + (those still to be tested at i, and those above i) + N N ≤ 1 + 2 N + T + 2 N σ
+--   in steps 2 and 3              q + n n ≤ 2 + 2 n + T + 2 n p + |done| + open duties
+--   in step 4 after N rounds      q + (those still to be tested at i, and those above i) + N N ≤ 2 + 2 N + T + 2 N σ
 -- That each answer keeps it is shown in ExactRound and ExactKept. Assumes nothing.
 use Prim.Native.Nat.{ℕ, zero, suc, _+_, _*_, max, _≤_, _<_}
 use mathlib.Core.Bool.{true}
@@ -69,7 +69,7 @@ module _ (M : Model) where
     pub distinct : Distinct done
     pub ahead : (s : ℕ) → listed done s ≡ true → Done (suc n) st s
     pub fresh : Fresh n before st
-    pub few : q + n * n ≤ 1 + 2 * n + total st + 2 * (n * before) + length done + duties
+    pub few : q + n * n ≤ 2 + 2 * n + total st + 2 * (n * before) + length done + duties
 
   -- step 4 after N rounds, where `todo` of level i are still to be tested
   pub record Testing (N : ℕ) (st : List Entry) (i : ℕ) (todo : List ℕ) (q : ℕ) : Type 0 where
@@ -77,11 +77,11 @@ module _ (M : Model) where
     pub once : 1 ≤ N
     pub enough : N ≤ max 1 (length st)
     pub failed : (s : ℕ) → levelOf st s ≡ 1 → (i ≡ 1 → listed todo s ≡ true → ⊥) → Missing N st
-    pub few : q + (length todo + length (states (leb (suc i)) st)) + N * N ≤ 1 + 2 * N + total st + 2 * (N * length st)
+    pub few : q + (length todo + length (states (leb (suc i)) st)) + N * N ≤ 2 + 2 * N + total st + 2 * (N * length st)
 
   -- the account at each question
   abbrev pub C : ℕ → List Entry → Phase → ℕ → Type 0
-  C zero st look q = (q ≡ 0) × (st ≡ [])
+  C zero st look q = (q ≡ 1) × (st ≡ [])
   C (suc n) st look q = Opened n st 0 q
   C zero st (settle k s ds) q = ⊥
   C (suc n) st (settle k s ds) q = Opened n st (suc (length ds)) q

@@ -165,7 +165,7 @@ module _ (M : Model) (m : ℕ) (D : Number (Doomed M) m) where
       )))
 
   -- step 1 found nothing
-  begun : (room : ℕ) → Held M m room 1 (round 1 0 1 [])
+  begun : (room : ℕ) → Held M m room 2 (round 1 0 1 [])
   unfolding round judge levelOf total
   begun room =
       record {

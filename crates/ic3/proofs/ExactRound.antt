@@ -40,7 +40,7 @@ module _ (M : Model) (m : ℕ) where
   module _ (room N : ℕ) (st : List Entry) (w : Tidy st) (S : Stored (Sown M N) st) (once : 1 ≤ N) (q : ℕ) where
     -- from level i on; above level 1, a state that kept level 1 was tested
     pub round-exact : (i : ℕ) → 1 ≤ i → N ≤ max 1 (length st) → ((s : ℕ) → levelOf st s ≡ 1 → 2 ≤ i → Missing M N st)
-        → q + length (states (leb i) st) + N * N ≤ 1 + 2 * N + total st + 2 * (N * length st) → Lands (Held room q) (suc N) st i
+        → q + length (states (leb i) st) + N * N ≤ 2 + 2 * N + total st + 2 * (N * length st) → Lands (Held room q) (suc N) st i
     round-exact i o h t b =
         record {
           next-level = λ j s todo a l e g.

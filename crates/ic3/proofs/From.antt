@@ -1,11 +1,15 @@
 -- A search as its turns. A loop over questions keeps "the rest of the run is the whole run" by `run-out`, `run-go` and `run-stop`; and what
--- every turn keeps holds of the ending, by recursion on the allowance. Assumes nothing.
-use Prim.Native.Nat.{ℕ, zero, suc, _+_}
+-- every turn keeps holds of the ending, by recursion on the allowance. The question for a start state stands before the first turn. Assumes nothing.
+use Prim.Native.Nat.{ℕ, zero, suc, _+_, _-_, _≤_}
 use mathlib.Core.List.{[]}
+use mathlib.Core.Option.{Option, none, some}
 use mathlib.Core.Path.{_≡_, refl}
 use native.Mathlib.Omega.{arith}
-use Rattle.ic3.specs.Model.{Model}
-use Rattle.ic3.specs.Search.{look, Config, at, Verdict, gaveUp, spent, Move, go, stop, next, Ending, searchFrom, searched}
+use Rattle.ic3.specs.Answers.{Answers}
+use Rattle.ic3.specs.Model.{Model, least}
+use Rattle.ic3.specs.Search.{look, Config, at, spent, Verdict, gaveUp, Move, go, stop, next, Ending, searchFrom, begun, searched}
+use Rattle.ic3.specs.Demands.{HasStart, NoStart}
+use Rattle.ic3.proofs.Least.{least-answers}
 
 module _ (M : Model) (room : ℕ) where
   pub from-out : (c : Config) (q : ℕ) → searchFrom 0 M room c q ≡ record { verdict = gaveUp spent; questions = q }
@@ -27,22 +31,35 @@ module _ (M : Model) (room allowance : ℕ) (P : Config → ℕ → Type 0) (Q :
   Turned q (go d) = P d q
   Turned q (stop v) = Q v q
 
+  abbrev pub Ended : Ending → Type 0
+  Ended e = Q (e .verdict) (e .questions)
+
   pub from-keeps : ((c : Config) (q : ℕ) → P c q → Turned (suc q) (next M room c)) → ((c : Config) → P c allowance → Q (gaveUp spent) allowance)
       → (left : ℕ) (c : Config) (q : ℕ) → left + q ≡ allowance → P c q
-      → Q (searchFrom left M room c q .verdict) (searchFrom left M room c q .questions)
+      → Ended (searchFrom left M room c q)
   unfolding searchFrom
   from-keeps turn over zero c q e p = let z : q ≡ allowance = omega arith in rw z (over c (rw z at p))
   from-keeps turn over (suc left) c q e p =
       pick (next M room c) (turn c q p) (λ d r. from-keeps turn over left d (suc q) (omega arith) r)
     where
       pick : (m : Move) → Turned (suc q) m
-          → ((d : Config) → P d (suc q) → Q (searchFrom left M room d (suc q) .verdict) (searchFrom left M room d (suc q) .questions))
-          → Q ((elim m as (λ x. Ending) [ go d ↦ searchFrom left M room d (suc q) | stop v ↦ record { verdict = v; questions = suc q } ]) .verdict)
-          ((elim m as (λ x. Ending) [ go d ↦ searchFrom left M room d (suc q) | stop v ↦ record { verdict = v; questions = suc q } ]) .questions)
+          → ((d : Config) → P d (suc q) → Ended (searchFrom left M room d (suc q)))
+          → Ended (elim m as (λ x. Ending) [ go d ↦ searchFrom left M room d (suc q) | stop v ↦ record { verdict = v; questions = suc q } ])
       pick (go d) t r = r d t
       pick (stop v) t r = t
 
+  -- the whole search: no leave to ask, no start state, or step 1 after one question
   pub searched-keeps : ((c : Config) (q : ℕ) → P c q → Turned (suc q) (next M room c)) → ((c : Config) → P c allowance → Q (gaveUp spent) allowance)
-      → P (at 0 [] look) 0 → Q (searched M room allowance .verdict) (searched M room allowance .questions)
-  unfolding searched
-  searched-keeps turn over p = from-keeps turn over allowance (at 0 [] look) 0 (omega arith) p
+      → (allowance ≡ 0 → Ended (searched M room 0)) → (1 ≤ allowance → NoStart M → Ended (begun (allowance - 1) M room none))
+      → (HasStart M → P (at 0 [] look) 1) → Ended (searched M room allowance)
+  unfolding begun searched
+  searched-keeps turn over forbidden nowhere first = whole allowance refl
+    where
+      taken : (left : ℕ) → suc left ≡ allowance → (o : Option ℕ) → Answers (M .size) (M .start) o → Ended (begun left M room o)
+      taken left e none a = nowhere (omega arith) a
+      taken left e (some s) a =
+          from-keeps turn over left (at 0 [] look) 1 (omega arith) (first (record { state = s; inside = a .state; starts = a .fulfils }))
+
+      whole : (a : ℕ) → a ≡ allowance → Ended (searched M room a)
+      whole zero e = forbidden (omega arith)
+      whole (suc left) e = taken left e (least (M .size) (M .start)) (least-answers (M .size) (M .start))

@@ -6,6 +6,7 @@ pub mod Round
 pub mod From
 pub mod Shape
 pub mod Sound
+pub mod Start
 pub mod Number
 pub mod Cost
 pub mod ExactSums

@@ -10,11 +10,11 @@ use native.Mathlib.Omega.{arith}
 use lib.Dec.{leb}
 use lib.ListN.{length}
 use Rattle.ic3.specs.Model.{Model, least}
-use Rattle.ic3.specs.Search.{Entry, put, Phase, look, settle, raise, Config, at, wanted, Move, go, stop, settled, tested, found, deeper, kept, react, next, searchFrom, searched}
+use Rattle.ic3.specs.Search.{Entry, put, Phase, look, settle, raise, Config, at, wanted, Move, go, stop, settled, tested, found, deeper, kept, react, next, searchFrom, begun, searched}
 use Rattle.ic3.specs.Shape.{Tidy, Shape, FitsEnding, Shaped}
 use Rattle.ic3.proofs.Store.{put-tidy, put-old, states-length}
 use Rattle.ic3.proofs.Round.{Lands, round-lands, tested-lands, kept-lands, level-head, taken-length}
-use Rattle.ic3.proofs.From.{Turned, from-keeps}
+use Rattle.ic3.proofs.From.{Turned, from-keeps, searched-keeps}
 
 module _ (room : ℕ) where
   -- ---- steps 4 and 5, with N no more than they can begin with
@@ -89,17 +89,20 @@ module _ (room : ℕ) where
   pub opening-shape : Shape room (at 0 [] look)
   opening-shape = record { tidy = tt; stored = omega arith; low = omega arith; placed = tt }
 
+  turned : (M : Model) (allowance p : ℕ) (m : Move) → Shaped room m → Turned M room allowance (λ d p. Shape room d) (λ v p. FitsEnding room v) p m
+  turned M allowance p (go d) x = x
+  turned M allowance p (stop v) x = x
+
   -- a run from any configuration that has the shape, in any model
   pub from-fits : (M : Model) (left : ℕ) (c : Config) (q : ℕ) → Shape room c → FitsEnding room (searchFrom left M room c q .verdict)
   from-fits M left c q w =
       from-keeps M room (left + q) (λ d p. Shape room d) (λ v p. FitsEnding room v)
-      (λ d p x. turned (suc p) (next M room d) (next-keeps-shape M d x)) (λ d x. tt) left c q refl w
-    where
-      turned : (p : ℕ) (m : Move) → Shaped room m → Turned M room (left + q) (λ d p. Shape room d) (λ v p. FitsEnding room v) p m
-      turned p (go d) x = x
-      turned p (stop v) x = x
+      (λ d p x. turned M (left + q) (suc p) (next M room d) (next-keeps-shape M d x)) (λ d x. tt) left c q refl w
 
 -- the whole search
 pub ending-fits : (M : Model) (room allowance : ℕ) → FitsEnding room (searched M room allowance .verdict)
-unfolding searched
-ending-fits M room allowance = from-fits room M allowance (at 0 [] look) 0 (opening-shape room)
+unfolding begun searched
+ending-fits M room allowance =
+    searched-keeps M room allowance (λ d p. Shape room d) (λ v p. FitsEnding room v)
+    (λ d p x. turned room M allowance (suc p) (next M room d) (next-keeps-shape room M d x)) (λ d x. tt) (λ e. tt) (λ l n. tt)
+    (λ h. opening-shape room)

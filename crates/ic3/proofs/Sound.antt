@@ -1,7 +1,7 @@
 -- Demand 2. At each question the store is tidy, its levels are frames (Frames), and where a duty is being settled, its state leads to a bad
 -- one through the states of the open duties above it, each of which sits below its level. Each answer keeps that, or ends the search with
 -- evidence that is right: a gap in the levels, or a start state in front of the open duties. Assumes nothing.
-use Prim.Native.Nat.{ℕ, zero, suc, _≤_, _<_}
+use Prim.Native.Nat.{ℕ, zero, suc, _-_, _≤_, _<_}
 use mathlib.Core.Bool.{false, _&&_}
 use mathlib.Core.List.{List, [], _∷_}
 use mathlib.Core.Option.{Option, none, some}
@@ -13,9 +13,9 @@ use Rattle.ic3.specs.Theorems.{Demand-2}
 use Rattle.ic3.specs.Answers.{Least, Answers}
 use Rattle.base.proofs.Tests.{test, clash, both, first-false}
 use Rattle.ic3.specs.Model.{Model, least}
-use Rattle.ic3.specs.Search.{Entry, levelOf, put, states, R, Phase, look, settle, raise, Config, at, wanted, Verdict, gaveUp, spent, Move, go, stop, settled, tested, found, deeper, react, next, searched}
+use Rattle.ic3.specs.Search.{Entry, levelOf, put, states, R, Phase, look, settle, raise, Config, at, wanted, spent, Verdict, gaveUp, Move, go, stop, settled, tested, found, deeper, react, next, Ending, begun, searched}
 use Rattle.ic3.specs.Shape.{Tidy, Sits, Placed}
-use Rattle.ic3.specs.Demands.{Leads, listed, Safe, Doomed}
+use Rattle.ic3.specs.Demands.{Leads, listed, Safe, HasStart, NoStart, Doomed}
 use Rattle.ic3.proofs.Least.{least-answers}
 use Rattle.ic3.proofs.Store.{level-put, level-put-other, put-tidy, Stored, stored-put, states-listed}
 use Rattle.ic3.proofs.Frames.{Frames, leads-state, path-hit, inside-level, frames-none, hit-late, leads-no-start, frames-grown, frames-raised, gap-excludes, excludes-never}
@@ -221,6 +221,9 @@ module _ (M : Model) where
     Then q (go c) = C (c .N) (c .store) (c .phase) q
     Then q (stop v) = Q v q
 
+    abbrev pub Ended : Ending → Type 0
+    Ended e = Q (e .verdict) (e .questions)
+
     abbrev Both : Config → ℕ → Type 0
     Both c q = Fine (go c) × C (c .N) (c .store) (c .phase) q
 
@@ -231,23 +234,29 @@ module _ (M : Model) where
     pub search-keeps : ((N : ℕ) (st : List Entry) (ph : Phase) (o : Option ℕ) (q : ℕ) → Kept N st → Stands N st ph
         → Answers (M .size) (wanted M N st ph) o → C N st ph q → Then (suc q) (react room N st ph o))
         → ((N : ℕ) (st : List Entry) (ph : Phase) → Kept N st → Stands N st ph → C N st ph allowance → Q (gaveUp spent) allowance)
-        → C 0 [] look 0 → Q (searched M room allowance .verdict) (searched M room allowance .questions)
+        → (allowance ≡ 0 → Ended (searched M room 0)) → (1 ≤ allowance → NoStart M → Ended (begun (allowance - 1) M room none))
+        → (HasStart M → C 0 [] look 1) → Ended (searched M room allowance)
     unfolding next
-    search-keeps turn over begin =
+    search-keeps turn over forbidden nowhere begin =
         searched-keeps M room allowance Both Q
         (λ c q p. let w = wanted M (c .N) (c .store) (c .phase) in
         together (suc q) (next M room c) (next-fine room c (p .0))
         (turn (c .N) (c .store) (c .phase) (least (M .size) w) q (p .0 .0) (p .0 .1) (least-answers (M .size) w) (p .1)))
         (λ c p. over (c .N) (c .store) (c .phase) (p .0 .0) (p .0 .1) (p .1))
-        (opening-fine, begin)
+        forbidden
+        nowhere
+        (λ h. (opening-fine, begin h))
 
   -- demand 2, for every room and allowance
   pub demand-2 : (room allowance : ℕ) → Demand-2 M (searched M room allowance .verdict)
+  unfolding begun searched
   demand-2 room allowance =
       searched-keeps M room allowance (λ c q. Fine (go c)) (λ v q. Demand-2 M v)
       (λ c q f. turned (suc q) (next M room c) (next-fine room c f))
       (λ c f. tt)
-      opening-fine
+      (λ e. tt)
+      (λ l n. tt)
+      (λ h. opening-fine)
     where
       turned : (q : ℕ) (m : Move) → Fine m → Turned M room allowance (λ c q. Fine (go c)) (λ v q. Demand-2 M v) q m
       turned q (go c) f = f

@@ -49,6 +49,15 @@ pub record Unsafe (M : Model) (path : List ℕ) : Type 0 where
   pub real : IsPath M path
   pub shortest : (other : List ℕ) → IsPath M other → length path ≤ length other
 
+-- there is a start state, and there is none
+pub record HasStart (M : Model) : Type 0 where
+  pub state : ℕ
+  pub inside : state < M .size
+  pub starts : M .start state ≡ true
+
+abbrev pub NoStart : Model → Type 0
+NoStart M = (s : ℕ) → s < M .size → M .start s ≡ false
+
 -- s is no start state and leads to a bad one in any number of steps, none included
 pub record Doomed (M : Model) (s : ℕ) : Type 0 where
   pub no-start : M .start s ≡ false

@@ -9,7 +9,7 @@ use Rattle.ic3.specs.Search.{safe, searched}
 use Rattle.ic3.specs.Demands.{Doomed, Number}
 
 abbrev pub exact : ℕ → ℕ
-exact m = max 2 (2 * (m * m) + 2 * m + 1)
+exact m = max 3 (2 * (m * m) + 2 * m + 2)
 
 -- four states, start {0}, bad {3}, steps 0→0 and 2→1→3→0
 abbrev pub chain : Model
@@ -21,9 +21,9 @@ chain =
       bad = eqb 3;
     }
 
--- with m = 3, and room and leave for no more than that, Chain is safe after 25 questions, as many as the bound allows
+-- with m = 3, and room and leave for no more than that, Chain is safe after 26 questions, as many as the bound allows
 pub record Met : Type 0 where
   pub m : Number (Doomed chain) 3
-  pub evidence : searched chain 3 25 .verdict ≡ safe (3 ∷ (1 ∷ (2 ∷ [])))
-  pub asked : searched chain 3 25 .questions ≡ 25
-  pub most : exact 3 ≡ 25
+  pub evidence : searched chain 3 26 .verdict ≡ safe (3 ∷ (1 ∷ (2 ∷ [])))
+  pub asked : searched chain 3 26 .questions ≡ 26
+  pub most : exact 3 ≡ 26

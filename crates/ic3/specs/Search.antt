@@ -57,10 +57,11 @@ wanted M N st look s = R M (levelOf st) N s && M .bad s
 wanted M N st (settle k t ds) s = R M (levelOf st) k s && M .step s t
 wanted M N st (raise i t todo) s = R M (levelOf st) i s && M .step s t
 
--- why a search gives up: no room for a further state, or the allowance used up
+-- why a search gives up: no room for a further state, the allowance used up, or no start state
 pub data Why : Type 0 where
   noRoom : Why
   spent : Why
+  noStart : Why
 
 -- how a search ends: safe with the excluded states, unsafe with the path, or given up
 pub data Verdict : Type 0 where
@@ -135,6 +136,12 @@ searchFrom zero M room c asked = record { verdict = gaveUp spent; questions = as
 searchFrom (suc left) M room c asked =
     elim (next M room c) [ go d ↦ searchFrom left M room d (suc asked) | stop v ↦ record { verdict = v; questions = suc asked } ]
 
--- The whole search. Step 1 is step 2 with N = 0: if it finds nothing, step 4 has no level to go through, and step 2 comes with N = 1.
+-- The question for a start state, taken in: with none the search ends. Step 1 is step 2 with N = 0; step 4 has no level to go through after it.
+unfoldable pub begun : ℕ → Model → ℕ → Option ℕ → Ending
+begun left M room none = record { verdict = gaveUp noStart; questions = 1 }
+begun left M room (some s) = searchFrom left M room (at 0 [] look) 1
+
+-- The whole search: before step 1 it asks for a start state.
 unfoldable pub searched : Model → ℕ → ℕ → Ending
-searched M room allowance = searchFrom allowance M room (at 0 [] look) 0
+searched M room zero = record { verdict = gaveUp spent; questions = 0 }
+searched M room (suc left) = begun left M room (least (M .size) (M .start))

@@ -2,8 +2,8 @@
 use Prim.Native.Nat.{ℕ, _+_, _*_, _≤_}
 use mathlib.Core.Path.{_≡_}
 use Rattle.ic3.specs.Model.{Model}
-use Rattle.ic3.specs.Search.{Verdict, safe, unsafe, gaveUp, searched}
-use Rattle.ic3.specs.Demands.{Safe, Unsafe, Doomed, Number}
+use Rattle.ic3.specs.Search.{noRoom, spent, noStart, Verdict, safe, unsafe, gaveUp, searched}
+use Rattle.ic3.specs.Demands.{Safe, Unsafe, HasStart, NoStart, Doomed, Number}
 
 -- demand 2, of a verdict
 abbrev pub Demand-2 : Model → Verdict → Type 0
@@ -17,13 +17,22 @@ Answered (safe evidence) = Unit {0}
 Answered (unsafe path) = Unit {0}
 Answered (gaveUp why) = ⊥
 
--- One search never asks more than `most` questions, and with room for m states and leave to ask that many it never gives up.
+-- One search never asks more than `most` questions, and where there is a start state, with room for m states and leave to ask that many it never
+-- gives up.
 pub record Bounded (M : Model) (m most : ℕ) : Type 0 where
   pub few : (room allowance : ℕ) → searched M room allowance .questions ≤ most
-  pub answers : (room allowance : ℕ) → m ≤ room → most ≤ allowance → Answered (searched M room allowance .verdict)
+  pub answers : HasStart M → (room allowance : ℕ) → m ≤ room → most ≤ allowance → Answered (searched M room allowance .verdict)
 
 -- demand 3: there is exactly one such m, and it bounds the search
 pub record Demand-3 (M : Model) : Type 0 where
   pub exists : (m : ℕ) × Number (Doomed M) m
   pub unique : (m n : ℕ) → Number (Doomed M) m → Number (Doomed M) n → m ≡ n
   pub bounded : (m : ℕ) → Number (Doomed M) m → Bounded M m (3 * ((m + 2) * (m + 2)))
+
+-- what the first question shows, of a verdict: there is a start state, or there is none and it was asked
+abbrev pub Started : Model → ℕ → Verdict → Type 0
+Started M allowance (safe evidence) = HasStart M
+Started M allowance (unsafe path) = HasStart M
+Started M allowance (gaveUp noRoom) = HasStart M
+Started M allowance (gaveUp spent) = (1 ≤ allowance → HasStart M)
+Started M allowance (gaveUp noStart) = (1 ≤ allowance) × NoStart M

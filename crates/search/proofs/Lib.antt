@@ -8,6 +8,7 @@ pub mod Asked
 pub mod Raising
 pub mod Taken
 pub mod Turns
+pub mod Opening
 pub mod Fronts
 pub mod Closing
 pub mod Promising

@@ -18,7 +18,7 @@ use Rattle.call.specs.Promise.{numberOf, saidOf, questionsOf, countOf, resultOf
 use Rattle.search.specs.declared.react.Verdict.{Verdict}
 use Rattle.call.specs.declared.Outcome.{Outcome}
 use Rattle.call.specs.declared.Outcome.the-variants.{Safe, Unsafe, GaveUp, Refused}
-use Rattle.call.proofs.Call.{refused-system, refused-stores, refused-none, called-refused, called-searches, called-within, called-right, stores-fitting, Lengths}
+use Rattle.call.proofs.Call.{refused-system, refused-stores, refused-none, called-refused, called-searches, called-within, called-asks, called-right, stores-fitting, Lengths}
 
 -- ---- how a search ends
 module _ (s s' : Stores) (w : Lengths s s') where
@@ -55,6 +55,7 @@ module _ (y : System) (lent : Stores) (allowance : ℕ) where
         evidence-length = rw e;
         demand-2 = tt;
         demand-3 = λ m D. rw e at (called-within y lent allowance m D);
+        start-asked = rw e at (called-asks y lent allowance);
         exists-m = demand-3 (model y) .exists;
       })
 
@@ -103,6 +104,7 @@ module _ (y : System) {lent : Stores} (allowance : ℕ) (h : refused y lent ≡ 
         evidence-length = rw called-ends (c .evidence-length);
         demand-2 = rw (ap (λ r. r .said) q, ap (λ r. r .evidence) q) (called-right y lent allowance);
         demand-3 = λ m D. rw q (called-within y lent allowance m D);
+        start-asked = rw q (called-asks y lent allowance);
         exists-m = demand-3 (model y) .exists;
       }
 

@@ -3,15 +3,13 @@
 -- used up. Assumes nothing.
 use Prim.Native.Nat.{ℕ, suc, _+_, _-_, _≤_, _<_}
 use mathlib.Core.Path.{_≡_, sym, ap, _∙_}
-use native.Mathlib.Nat.{sub-zero}
 use native.Mathlib.Numerals.{add-one}
 use native.Mathlib.Omega.{arith}
 use lib.ListN.{length}
-use Rattle.ic3.specs.Model.{Model}
-use Rattle.ic3.specs.Search.{next, searchFrom, searched}
+use Rattle.ic3.specs.Search.{next, searchFrom}
 use Rattle.ic3.specs.Search as ic3
 use Rattle.ic3.proofs.From.{from-out, from-go, from-stop}
-use Rattle.ic3.proofs.Shape.{next-keeps-shape, opening-shape}
+use Rattle.ic3.proofs.Shape.{next-keeps-shape}
 use Rattle.system.specs.System.{System, model}
 use Rattle.call.specs.Call.{Stores}
 use Rattle.call.proofs.Call.{Lengths}
@@ -122,19 +120,3 @@ running-spent {y} {allowance} {s₀} {c = c} {asked} {s} w h =
       counted = tt;
       lends = w .ready .lends;
     }
-
--- ---- the whole search
--- step 1 has the shape: nothing is stored
-pub first-begins : {n room allowance : ℕ} {s : Stores} → Lends n room s → Begins n room (config 0 0 Look) 0 allowance s
-unfolding storeOf window
-first-begins {room = room} w =
-    record {
-      ready = record { lends = w; shape = opening-shape room; indexed = tt };
-      within = omega arith;
-    }
-
--- the run from there is the search
-pub first-searches : (M : Model) (room allowance : ℕ) (s : Stores)
-    → searchFrom (allowance - 0) M room (configOf (config 0 0 Look) s) 0 ≡ searched M room allowance
-unfolding storeOf window searched
-first-searches M room allowance s = rw (sub-zero allowance)

@@ -5,14 +5,14 @@ use Prim.Native.Nat.{ℕ, zero, suc, _-_}
 use mathlib.Core.List.{List, [], _∷_}
 use lib.Dec.{eqb, leb}
 use lib.ListN.{getD}
-use Rattle.ic3.specs.Search.{Entry, look, settle, raise, at, noRoom, spent, safe, unsafe, gaveUp, go, stop, states}
+use Rattle.ic3.specs.Search.{Entry, look, settle, raise, at, noRoom, spent, noStart, safe, unsafe, gaveUp, go, stop, states}
 use Rattle.ic3.specs.Search as ic3
 use Rattle.call.specs.Call.{Stores}
 use Rattle.search.specs.declared.react.Phase.{Phase}
 use Rattle.search.specs.declared.react.Phase.the-variants.{Look, Settle, Raise}
 use Rattle.search.specs.declared.react.Config.{Config}
 use Rattle.search.specs.declared.react.Why.{Why}
-use Rattle.search.specs.declared.react.Why.the-variants.{NoRoom, Spent}
+use Rattle.search.specs.declared.react.Why.the-variants.{NoRoom, Spent, NoStart}
 use Rattle.search.specs.declared.react.Verdict.{Verdict}
 use Rattle.search.specs.declared.react.Verdict.the-variants.{Safe, Unsafe, GaveUp}
 use Rattle.search.specs.declared.react.Move.{Move}
@@ -50,6 +50,7 @@ configOf c s = at (c .N) (storeOf (c .count) (s .states) (s .levels)) (phaseOf (
 abbrev pub whyOf : Why → ic3.Why
 whyOf NoRoom = noRoom
 whyOf Spent = spent
+whyOf NoStart = noStart
 
 abbrev pub verdictOf : Verdict → Stores → ic3.Verdict
 verdictOf (Safe i count) s = safe (states (leb i) (storeOf count (s .states) (s .levels)))

@@ -1,7 +1,7 @@
 // The public call: the search of the scope over lent stores. It takes every input: it refuses with 1 to 4 by what `system` and `call` say and
-// leaves the stores untouched, or it runs the turns from step 1 on, gives up with 5 or 6 where they do, and leaves the stores with the evidence
-// alone. The three lent slices are all the memory there is: the state store and the level store hold the stored states (store.rt), the path store
-// the open duties (react.rt), so that a path is in place when it is found; turn.rt asks the questions.
+// leaves the stores untouched, or it asks for a start state and runs the turns from step 1 on, gives up with 5, 6 or 14 where they do, and leaves the
+// stores with the evidence alone. The three lent slices are all the memory there is: the state store and the level store hold the stored states
+// (store.rt), the path store the open duties (react.rt), so that a path is in place when it is found; turn.rt asks the questions.
 mod react;
 mod store;
 mod turn;
@@ -13,13 +13,11 @@ ghost use Rattle.call.specs.Call.{whyNumber, leaves};
 ghost use Rattle.call.specs.Promise.{stores, Promised};
 ghost use Rattle.search.specs.Lent.{whyOf};
 ghost use Rattle.search.specs.Contracts.{Finishes, Closing, Closes};
-use react::Config;
-use react::Phase;
 use react::Verdict;
 use react::Why;
 use store::keep;
 use turn::Ending;
-use turn::all_turns;
+use turn::searched;
 
 // The stores as they are left: the states start with `front` of their numbers and the path with `len` of its own, and everything else is zero.
 fn finish(states: &mut [u64], levels: &mut [u32], path: &mut [u64], front: usize, len: usize)
@@ -42,6 +40,7 @@ fn number(why: Why) -> u32
     match why {
         Why::Spent => 5,
         Why::NoRoom => 6,
+        Why::NoStart => 14,
     }
 }
 
@@ -99,22 +98,6 @@ pub fn search(
     if call::wrong_stores(states, levels, path) {
         return call::Outcome::Refused(4);
     }
-    let first = Config {
-        N: 0,
-        count: 0,
-        phase: Phase::Look,
-    };
-    let ending = all_turns(
-        n,
-        start,
-        step,
-        bad,
-        states,
-        levels,
-        path,
-        first,
-        0,
-        allowance,
-    );
+    let ending = searched(n, start, step, bad, states, levels, path, allowance);
     close(states, levels, path, ending)
 }

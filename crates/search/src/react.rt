@@ -32,10 +32,11 @@ pub(super) struct Config {
     pub(super) phase: Phase,
 }
 
-// Why a search gives up: no room for a further state, or the allowance used up.
+// Why a search gives up: no room for a further state, the allowance used up, or no start state.
 pub(super) enum Why {
     NoRoom,
     Spent,
+    NoStart,
 }
 
 // How a search ends: safe, with the level from which on states are excluded and the number stored; unsafe, with the path's length; or given up.

@@ -1,17 +1,18 @@
-// The turns of a search: one question, asked and taken in, and turn after turn. A turn requires the shape of a configuration and nothing of what
-// the levels mean, and keeps it; so a run can go on from any configuration that has the shape, in any system. Each phase has its function, thin
-// over a question and over what the answer leads to. Nothing is refused here.
+// The questions of a search: for a start state, then turn after turn, one question, asked and taken in. A turn requires the shape of a configuration
+// and nothing of what the levels mean, and keeps it; so a run can go on from any configuration that has the shape, in any system. Each phase has its
+// function, thin over a question and over what the answer leads to. Nothing is refused here.
 ghost use mathlib.Core.List.{List};
 ghost use mathlib.Core.Path.{_≡_};
-ghost use Prim.Native.Nat.{ℕ, _-_};
+ghost use Prim.Native.Nat.{ℕ, _-_, _^_, min};
 ghost use lib.ListN.{length, take};
+ghost use Rattle.ic3.specs.Model.{least};
 ghost use Rattle.ic3.specs.Search as ic3;
-ghost use Rattle.system.specs.System.{model, systemOf};
+ghost use Rattle.system.specs.System.{listTrue, model, systemOf};
 ghost use Rattle.question.specs.Question.{answered, badIn, stepIn};
 ghost use Rattle.call.specs.Promise.{stores};
 ghost use Rattle.search.specs.declared.react.Phase.the-variants.{Look, Settle, Raise};
 ghost use Rattle.search.specs.Lent.{config, configOf};
-ghost use Rattle.search.specs.Contracts.{Holds, Ready, Raises, Moves, Begins, Ends};
+ghost use Rattle.search.specs.Contracts.{Holds, Lends, Ready, Raises, Moves, Begins, Ends};
 use super::react::Config;
 use super::react::Move;
 use super::react::Phase;
@@ -179,7 +180,7 @@ fn one_turn(
 }
 
 // Turn after turn from c, which `asked` questions led to, until one is the last or the allowance is used up.
-pub(super) fn all_turns(
+fn all_turns(
     n: u32,
     start: &[u64],
     step: &[u64],
@@ -218,4 +219,61 @@ pub(super) fn all_turns(
         verdict: Verdict::GaveUp(Why::Spent),
         questions: asked,
     }
+}
+
+// The question for a start state: a state of R(0) of which an empty list is true.
+fn start_state(n: u32, start: &[u64], levels: &[u32]) -> question::Answer
+    ensures { λ r. ⌜ answered r ≡ least (2 ^ min n 32) (listTrue (now (start .entry))) ⌝ }
+{
+    question::bad_in(n, start, &start[..0], &start[..0], levels, 0)
+}
+
+// The whole search: the question for a start state, then turn after turn from step 1 on.
+pub(super) fn searched(
+    n: u32,
+    start: &[u64],
+    step: &[u64],
+    bad: &[u64],
+    states: &mut [u64],
+    levels: &mut [u32],
+    path: &mut [u64],
+    allowance: u32,
+) -> Ending
+    requires { ⌜ Lends n (length (now states)) (stores (now states) (now levels) (now path)) ⌝ }
+    ensures { λ r. ⌜
+        Ends n (length (now (states .entry)))
+        (ic3.searched (model (systemOf n (now (start .entry)) (now (step .entry)) (now (bad .entry)))) (length (now (states .entry))) allowance)
+        (r .verdict) (r .questions) (stores (now (states .exit)) (now (levels .exit)) (now (path .exit)))
+        ⌝ }
+{
+    if allowance == 0 {
+        return Ending {
+            verdict: Verdict::GaveUp(Why::Spent),
+            questions: 0,
+        };
+    }
+    let answer = start_state(n, start, levels);
+    let question::Answer::State(_) = answer else {
+        return Ending {
+            verdict: Verdict::GaveUp(Why::NoStart),
+            questions: 1,
+        };
+    };
+    let first = Config {
+        N: 0,
+        count: 0,
+        phase: Phase::Look,
+    };
+    all_turns(
+        n,
+        start,
+        step,
+        bad,
+        states,
+        levels,
+        path,
+        first,
+        1,
+        allowance,
+    )
 }

@@ -9,7 +9,7 @@ pub const NEITHER: u64 = 2;
 
 // What is counted, by its place: systems by their bits, less 1, and by the kind of their steps; systems with something special; what was said; sums; how
 // the calls ended; a digest of all calls in turn; and what is not as the walk says or as it must be.
-pub const PLACES: usize = 45;
+pub const PLACES: usize = 46;
 
 const KINDS: usize = 10;
 
@@ -43,25 +43,27 @@ const SPENT: usize = 33;
 
 const NO_ROOM: usize = 34;
 
-const DIGEST: usize = 35;
+const WITHOUT: usize = 35;
 
-const GAVE_UP: usize = 36;
+const DIGEST: usize = 36;
 
-const VERDICT: usize = 37;
+const GAVE_UP: usize = 37;
 
-const SHORTEST: usize = 38;
+const VERDICT: usize = 38;
 
-const TOO_MANY: usize = 39;
+const SHORTEST: usize = 39;
 
-pub const CHECK: usize = 40;
+const TOO_MANY: usize = 40;
 
-pub const WALK: usize = 41;
+pub const CHECK: usize = 41;
 
-pub const NOT_ZERO: usize = 42;
+pub const WALK: usize = 42;
 
-const OTHER: usize = 43;
+pub const NOT_ZERO: usize = 43;
 
-const NUMBER: usize = 44;
+const OTHER: usize = 44;
+
+const NUMBER: usize = 45;
 
 // What the walk knows of a system: how many states are no start state and lead to a bad one, the fewest steps from a start state to a bad one, and
 // how many states are start states, bad, and without a next state.
@@ -114,20 +116,30 @@ pub fn enter_system(counts: &mut [u64; PLACES], n: u32, kind: u64, k: Known) {
     count(counts, DOOMED, k.m as u64);
 }
 
-// The first call of a system, with room m and allowance 3(m+2)(m+2), against the walk.
+// The first call of a system, with room m and allowance 3(m+2)(m+2), against the walk. Without a start state it ends with 14 after one question.
 fn enter_first(counts: &mut [u64; PLACES], k: Known, seen: Seen) {
+    count(counts, QUESTIONS, seen.questions as u64);
+    count(counts, ANSWERED, one(seen.number == 0));
+    count(counts, TOO_MANY, one(most(k.m) < seen.questions));
+    if k.starts == 0 {
+        let right = (seen.number == 14) & (seen.said == NEITHER) & (seen.questions == 1);
+        count(counts, VERDICT, one(!right));
+    } else {
+        enter_verdict(counts, k, seen);
+    }
+}
+
+// The verdict of the first call of a system with a start state.
+fn enter_verdict(counts: &mut [u64; PLACES], k: Known, seen: Seen) {
     let reached = k.steps != small_systems::NEVER;
     let wanted = std::num::wrapping_add_u32(k.steps, 1) as usize;
     let unsafe_said = seen.said == UNSAFE;
     let at = (seen.said % 2) as usize;
     count(counts, SAID + at, 1);
     count(counts, LENGTHS + at, seen.length as u64);
-    count(counts, QUESTIONS, seen.questions as u64);
-    count(counts, ANSWERED, one(seen.number == 0));
     count(counts, GAVE_UP, one(seen.number != 0));
     count(counts, VERDICT, one(seen.said != one(reached)));
     count(counts, SHORTEST, one(unsafe_said & (seen.length != wanted)));
-    count(counts, TOO_MANY, one(most(k.m) < seen.questions));
     if unsafe_said & (counts[LONGEST] < seen.length as u64) {
         counts[LONGEST] = seen.length as u64;
     }
@@ -143,9 +155,9 @@ fn same(a: Seen, b: Seen) -> bool {
 }
 
 // A later call of the system. With the allowance that was used it is the first again, and with one less it ends with 5. With less room it is the
-// first again, or ends with 6.
+// first again, or ends with 6; without a start state it is the first again.
 fn enter_later(counts: &mut [u64; PLACES], turn: u64, first: Seen, seen: Seen) {
-    if turn == 1 || seen.number == 0 {
+    if turn == 1 || seen.number == 0 || (first.number == 14 && turn != 2) {
         count(counts, OTHER, one(!same(first, seen)));
         return;
     }
@@ -160,6 +172,7 @@ fn enter_call(counts: &mut [u64; PLACES], seen: Seen) {
     count(counts, CALLS, 1);
     count(counts, SPENT, one(seen.number == 5));
     count(counts, NO_ROOM, one(seen.number == 6));
+    count(counts, WITHOUT, one(seen.number == 14));
     counts[DIGEST] = small_systems::next(counts[DIGEST] ^ seen.digest);
 }
 
@@ -233,16 +246,16 @@ fn write_calls(counts: &[u64; PLACES]) {
     lines(
         counts,
         32,
-        b"room m sufficed          calls that gave 5        calls that gave 6        digest of all calls      ",
+        b"room m sufficed          calls that gave 5        calls that gave 6        calls that gave 14       digest of all calls      ",
     );
     lines(
         counts,
-        36,
+        37,
         b"gave up with room m      verdict differs          path length differs      too many questions       evidence check refuses   ",
     );
     lines(
         counts,
-        41,
+        42,
         b"walk refuses             store not zero           other answer             number not 5 or 6        ",
     );
 }

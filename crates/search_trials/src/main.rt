@@ -265,12 +265,12 @@ fn next_plan(p: Plan, m: usize, turn: u64, first: counts::Seen, seen: counts::Se
         };
     }
     let up = std::num::wrapping_add_usize(p.room, 1);
-    let low = if turn == 2 || seen.number == 0 {
+    let low = if turn == 2 || seen.number != 6 {
         p.low
     } else {
         up
     };
-    let high = if turn == 2 || seen.number != 0 {
+    let high = if turn == 2 || seen.number == 6 {
         p.high
     } else {
         p.room

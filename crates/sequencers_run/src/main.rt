@@ -225,6 +225,26 @@ fn lend_bad(name: &[u8], bad: &[u64]) {
     lend_four(name, 2, &start, &step, bad);
 }
 
+// Ring without a start state, with this room and allowance.
+fn lend_nowhere(name: &[u8], room: usize, allowance: u32)
+    requires { ⌜ room ≤ 4 ⌝ }
+{
+    let start = [0u64; 2];
+    let step = RING;
+    let bad = THREE;
+    lend(
+        name,
+        2,
+        &start,
+        &step,
+        &bad,
+        room,
+        room,
+        room + 2,
+        allowance,
+    );
+}
+
 fn lend_all_bad(name: &[u8]) {
     let step = RING;
     let none = [0u64; 0];
@@ -236,8 +256,8 @@ fn sequencers() {
     lend_late(b"Late", 4, ENOUGH);
     lend_late(b"Late, room 2", 2, ENOUGH);
     lend_late(b"Late, room 1", 1, ENOUGH);
+    lend_late(b"Late, allowance 17", 4, 17);
     lend_late(b"Late, allowance 16", 4, 16);
-    lend_late(b"Late, allowance 15", 4, 15);
     lend_late(b"Late, allowance 0", 4, 0);
 }
 
@@ -247,6 +267,10 @@ fn other_lists() {
     lend_step(b"Chain", &chain);
     lend_all_bad(b"Ring, start and bad empty");
     lend_bad(b"Ring, bad false", &never);
+    lend_nowhere(b"Ring, start false", 4, ENOUGH);
+    lend_nowhere(b"Ring, start false, room 0", 0, ENOUGH);
+    lend_nowhere(b"Ring, start false, allowance 1", 4, 1);
+    lend_nowhere(b"Ring, start false, allowance 0", 4, 0);
 }
 
 // Each state steps to each: from the least with this bit 0 to the least with it 1. With no bit, start and bad are a false clause each.

@@ -6,7 +6,6 @@ use Rattle.system.specs.System.{systemOf}
 use Rattle.call.specs.Call.{refused}
 use Rattle.call.specs.Promise.{stores}
 use Rattle.call.proofs.Call.{refused-stores}
-use Rattle.search.proofs.Turns.{first-begins, first-searches}
 use Rattle.search.proofs.Promising.{system-promised, stores-promised, lends, ends-closing, searched-promised}
 use borrow.Author.Needs.{needs}
 use Rattle.search.proofs.search.Statement.{statement}
@@ -24,19 +23,19 @@ accepted : (here : tie.Else2)
     refused (systemOf (a .n) (a .start .now) (a .step .now) (a .bad .now)) (stores (a .states .now) (a .levels .now) (a .path .now)) ≡ 0)
 accepted here = refused-stores _ _ {b = false} (cc) (cc)
 
-all-turns-requires : tie.Need-all-turns-requires
-all-turns-requires c κs = first-begins (lends _ _ (accepted (c .before .before .before)))
+searched-requires : tie.Need-searched-requires
+searched-requires c κs = lends _ _ (accepted (c .before .before .before))
 
 close-requires : tie.Need-close-requires
-close-requires c κs = ends-closing (c .before .before .before .before .before .before .before .before .before .all-turns .ensures)
+close-requires c κs = ends-closing (c .before .before .before .before .before .before .before .before .before .searched .ensures)
 
 returns-3 : tie.Need-returns-3
 returns-3 c =
-    let turns = c .before .before .before .before .before .before .before .before .before .before .before .before .before .before .before .before in
-    let none = accepted (turns .before .before .before .before) in
-    let l = turns .all-turns .ensures .lends in
-    searched-promised _ _ none (rw (first-searches _ _ _ _) at (turns .all-turns .ensures))
-    (record { states = l .states; levels = l .levels ∙ sym (lends _ _ none .levels); path = turns .all-turns .kept .1 .1 .1 .1 .1 .1 .0 })
+    let run = c .before .before .before .before .before .before .before .before .before .before .before .before .before .before .before .before in
+    let none = accepted (run .before .before .before .before) in
+    let l = run .searched .ensures .lends in
+    searched-promised _ _ none (run .searched .ensures)
+    (record { states = l .states; levels = l .levels ∙ sym (lends _ _ none .levels); path = run .searched .kept .1 .1 .1 .1 .1 .1 .0 })
     (c .before .before .before .before .before .before .close .ensures)
 
 pub search-spec : {M : Type 1} → statement M
@@ -50,7 +49,7 @@ search-spec =
     (λ c. search needs)
     (λ c. search needs)
     returns-2
-    all-turns-requires
+    searched-requires
     close-requires
     (λ c. search needs)
     (λ c. search needs)
