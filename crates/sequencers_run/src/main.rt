@@ -1,7 +1,5 @@
 // The worked sequencers of the scope, and calls at the edge of each refusal, a line each: the number, the verdict, the questions, the evidence,
 // and what the three stores hold afterwards. The file `stdout` is worked out by hand from the scope.
-ghost use Prim.Native.Nat.{_≤_};
-ghost use lib.ListN.{length};
 
 // Start {0} and bad {3}, of two bits.
 const ZERO: [u64; 4] = [0, 1, 0, 2];
@@ -60,6 +58,13 @@ const CHAIN: [u64; 14] = [
     0x1_0000_0003,
 ];
 
+// Which list of Ring another one stands for.
+const START: u64 = 0;
+
+const STEP: u64 = 1;
+
+const BAD: u64 = 2;
+
 // What the stores hold beforehand.
 const FILLED: u64 = 9;
 
@@ -69,13 +74,17 @@ fn write(text: &[u8]) {
     io::write_all(1, text);
 }
 
-// A name and the numbers behind it.
-fn write_numbers(name: &[u8], numbers: &[u64]) {
+fn write_number(text: &[u8], number: u64) {
+    write(text);
+    io::print_decimal(1, number);
+}
+
+// A name and the numbers behind it, so many at most.
+fn write_front(name: &[u8], numbers: &[u64], most: usize) {
     write(name);
     let mut j = 0;
-    while j < numbers.len() {
-        write(b" ");
-        io::print_decimal(1, numbers[j]);
+    while j < numbers.len() && j < most {
+        write_number(b" ", numbers[j]);
         j += 1;
     }
 }
@@ -83,12 +92,10 @@ fn write_numbers(name: &[u8], numbers: &[u64]) {
 // Level j, if there is one.
 fn write_level(levels: &[u32], j: usize) {
     if j < levels.len() {
-        write(b" ");
-        io::print_decimal(1, wide(levels[j]));
+        write_number(b" ", wide(levels[j]));
     }
 }
 
-// No more than four are lent.
 fn write_levels(levels: &[u32]) {
     write(b"; levels");
     write_level(levels, 0);
@@ -105,22 +112,19 @@ fn write_verdict(outcome: call::Outcome) {
     match outcome {
         call::Outcome::Safe(_, _) => write(b" safe"),
         call::Outcome::Unsafe(_, _) => write(b" unsafe"),
-        call::Outcome::GaveUp(_, _) => write(b" neither"),
-        call::Outcome::Refused(_) => write(b" neither"),
+        _ => write(b" neither"),
     }
 }
 
-// What the line of a call has behind the name.
+// What the line of a call has behind the name: of each store the front.
 fn write_line<'a>(outcome: call::Outcome, states: &'a [u64], levels: &[u32], path: &'a [u64]) {
-    write(b": ");
-    io::print_decimal(1, wide(call::number(outcome)));
+    write_number(b": ", wide(call::number(outcome)));
     write_verdict(outcome);
-    write(b", questions ");
-    io::print_decimal(1, wide(call::questions(outcome)));
-    write_numbers(b", evidence", call::evidence(states, path, outcome));
-    write_numbers(b"; states", states);
+    write_number(b", questions ", wide(call::questions(outcome)));
+    write_front(b", evidence", call::evidence(states, path, outcome), 6);
+    write_front(b"; states", states, 4);
     write_levels(levels);
-    write_numbers(b"; path", path);
+    write_front(b"; path", path, 6);
     write(b"\n");
 }
 
@@ -139,6 +143,15 @@ fn run(
     write_line(outcome, states, levels, path);
 }
 
+// An array for a store, longer than any that is lent. A function of its own makes it, so that the proof of who lends it need not look into it.
+fn filled() -> [u64; 65540] {
+    [FILLED; 65540]
+}
+
+fn filled_levels() -> [u32; 65540] {
+    [FILLED as u32; 65540]
+}
+
 // A call with stores of these lengths.
 fn lend(
     name: &[u8],
@@ -150,12 +163,13 @@ fn lend(
     others: usize,
     most: usize,
     allowance: u32,
-)
-    requires { ⌜ (room ≤ 4) × (others ≤ 4) × (most ≤ 6) ⌝ }
-{
-    let mut states = [FILLED; 4];
-    let mut levels = [FILLED as u32; 4];
-    let mut path = [FILLED; 6];
+) {
+    let mut states = filled();
+    let mut levels = filled_levels();
+    let mut path = filled();
+    let room = room % 65540;
+    let others = others % 65540;
+    let most = most % 65540;
     write(name);
     run(
         n,
@@ -174,75 +188,43 @@ fn lend_four(name: &[u8], n: u32, start: &[u64], step: &[u64], bad: &[u64]) {
     lend(name, n, start, step, bad, 4, 4, 6, ENOUGH);
 }
 
-// Ring with stores of these lengths.
-fn lend_ring(name: &[u8], room: usize, others: usize, most: usize)
-    requires { ⌜ (room ≤ 4) × (others ≤ 4) × (most ≤ 6) ⌝ }
-{
-    let start = ZERO;
-    let step = RING;
+// A call with this room and allowance, and the bad list of Ring.
+fn lend_room(name: &[u8], start: &[u64], step: &[u64], room: usize, allowance: u32) {
     let bad = THREE;
-    lend(name, 2, &start, &step, &bad, room, others, most, ENOUGH);
+    let most = std::num::wrapping_add_usize(room, 2);
+    lend(name, 2, start, step, &bad, room, room, most, allowance);
 }
 
 // Late with this room and allowance.
-fn lend_late(name: &[u8], room: usize, allowance: u32)
-    requires { ⌜ room ≤ 4 ⌝ }
-{
+fn lend_late(name: &[u8], room: usize, allowance: u32) {
     let start = ZERO;
     let step = LATE;
-    let bad = THREE;
-    lend(
-        name,
-        2,
-        &start,
-        &step,
-        &bad,
-        room,
-        room,
-        room + 2,
-        allowance,
-    );
-}
-
-// Ring with another start list.
-fn lend_start(name: &[u8], start: &[u64]) {
-    let step = RING;
-    let bad = THREE;
-    lend_four(name, 2, start, &step, &bad);
-}
-
-// Ring with another step list.
-fn lend_step(name: &[u8], step: &[u64]) {
-    let start = ZERO;
-    let bad = THREE;
-    lend_four(name, 2, &start, step, &bad);
-}
-
-// Ring with another bad list.
-fn lend_bad(name: &[u8], bad: &[u64]) {
-    let start = ZERO;
-    let step = RING;
-    lend_four(name, 2, &start, &step, bad);
+    lend_room(name, &start, &step, room, allowance);
 }
 
 // Ring without a start state, with this room and allowance.
-fn lend_nowhere(name: &[u8], room: usize, allowance: u32)
-    requires { ⌜ room ≤ 4 ⌝ }
-{
+fn lend_nowhere(name: &[u8], room: usize, allowance: u32) {
     let start = [0u64; 2];
     let step = RING;
+    lend_room(name, &start, &step, room, allowance);
+}
+
+// Ring with another list.
+fn lend_list(name: &[u8], which: u64, list: &[u64]) {
+    let start = ZERO;
+    let step = RING;
     let bad = THREE;
-    lend(
-        name,
-        2,
-        &start,
-        &step,
-        &bad,
-        room,
-        room,
-        room + 2,
-        allowance,
-    );
+    match which {
+        START => lend_four(name, 2, list, &step, &bad),
+        STEP => lend_four(name, 2, &start, list, &bad),
+        _ => lend_four(name, 2, &start, &step, list),
+    }
+}
+
+// Ring with a list of one clause.
+fn lend_clause(name: &[u8], which: u64, ones: u64, zeros: u64) {
+    let list = [ones, zeros];
+    lend_list(name, which, &list);
 }
 
 fn lend_all_bad(name: &[u8]) {
@@ -252,7 +234,8 @@ fn lend_all_bad(name: &[u8]) {
 }
 
 fn sequencers() {
-    lend_ring(b"Ring", 4, 4, 6);
+    let ring = RING;
+    lend_list(b"Ring", STEP, &ring);
     lend_late(b"Late", 4, ENOUGH);
     lend_late(b"Late, room 2", 2, ENOUGH);
     lend_late(b"Late, room 1", 1, ENOUGH);
@@ -263,10 +246,9 @@ fn sequencers() {
 
 fn other_lists() {
     let chain = CHAIN;
-    let never = [0u64; 2];
-    lend_step(b"Chain", &chain);
+    lend_list(b"Chain", STEP, &chain);
     lend_all_bad(b"Ring, start and bad empty");
-    lend_bad(b"Ring, bad false", &never);
+    lend_clause(b"Ring, bad false", BAD, 0, 0);
     lend_nowhere(b"Ring, start false", 4, ENOUGH);
     lend_nowhere(b"Ring, start false, room 0", 0, ENOUGH);
     lend_nowhere(b"Ring, start false, allowance 1", 4, 1);
@@ -292,75 +274,63 @@ fn odd_counts() {
     let start = ZERO;
     let step = RING;
     let bad = THREE;
-    lend_start(b"odd start", &start[..3]);
-    lend_step(b"odd step", &step[..11]);
-    lend_bad(b"odd bad", &bad[..1]);
+    lend_list(b"odd start", START, &start[..3]);
+    lend_list(b"odd step", STEP, &step[..11]);
+    lend_list(b"odd bad", BAD, &bad[..1]);
 }
 
-// With clauses that are all false there is no start state, no step, or no bad state.
+// A list of so many zero masks: all its clauses are false.
+fn lend_zeros(name: &[u8], which: u64, masks: usize) {
+    let list = [0u64; 8194];
+    let masks = masks % 8195;
+    lend_list(name, which, &list[..masks]);
+}
+
+// There is no start state, no step, or no bad state.
 fn many_clauses() {
-    let many = [0u64; 8194];
-    lend_start(b"4096 start clauses", &many[..8192]);
-    lend_start(b"4097 start clauses", &many);
-    lend_step(b"4096 step clauses", &many[..8192]);
-    lend_step(b"4097 step clauses", &many);
-    lend_bad(b"4096 bad clauses", &many[..8192]);
-    lend_bad(b"4097 bad clauses", &many);
+    lend_zeros(b"4096 start clauses", START, 8192);
+    lend_zeros(b"4097 start clauses", START, 8194);
+    lend_zeros(b"4096 step clauses", STEP, 8192);
+    lend_zeros(b"4097 step clauses", STEP, 8194);
+    lend_zeros(b"4096 bad clauses", BAD, 8192);
+    lend_zeros(b"4097 bad clauses", BAD, 8194);
 }
 
 fn bits() {
-    let two = [0u64, 4];
-    let later = [0x4_0000_0000u64, 0];
-    let after = [0x1_0000_0000u64, 0];
-    lend_start(b"bit 2 in start", &two);
-    lend_start(b"later bit 0 in start", &after);
-    lend_step(b"bit 2 in step", &two);
-    lend_step(b"later bit 2 in step", &later);
-    lend_bad(b"later bit 0 in bad", &after);
+    lend_clause(b"bit 2 in start", START, 0, 4);
+    lend_clause(b"later bit 0 in start", START, 0x1_0000_0000, 0);
+    lend_clause(b"bit 2 in step", STEP, 0, 4);
+    lend_clause(b"later bit 2 in step", STEP, 0x4_0000_0000, 0);
+    lend_clause(b"later bit 0 in bad", BAD, 0x1_0000_0000, 0);
 }
 
-fn unequal_stores() {
-    lend_ring(b"Ring, stores 4 4 5", 4, 4, 5);
-    lend_ring(b"Ring, stores 4 3 6", 4, 3, 6);
-    lend_ring(b"Ring, stores 3 4 6", 3, 4, 6);
-}
-
-// A path store of two more than the room is enough, one more is not.
-fn small_stores() {
-    lend_ring(b"Ring, stores 1 1 6", 1, 1, 6);
-    lend_ring(b"Ring, stores 1 1 3", 1, 1, 3);
-    lend_ring(b"Ring, stores 1 1 2", 1, 1, 2);
-    lend_ring(b"Ring, stores 0 0 2", 0, 0, 2);
-    lend_ring(b"Ring, stores 0 0 1", 0, 0, 1);
-}
-
-// Ring with these stores, of which the line has the fronts.
-fn run_fronts(states: &mut [u64], levels: &mut [u32], path: &mut [u64])
-    requires { ⌜ (4 ≤ length (now states)) × (4 ≤ length (now levels)) × (6 ≤ length (now path)) ⌝ }
-{
+// Ring with stores of these lengths, which stand behind the name.
+fn lend_stores(name: &[u8], room: usize, others: usize, most: usize) {
     let start = ZERO;
     let step = RING;
     let bad = THREE;
-    let outcome = search::search(2, &start, &step, &bad, states, levels, path, ENOUGH);
-    write_line(outcome, &states[..4], &levels[..4], &path[..6]);
+    write_number(name, room as u64);
+    write_number(b" ", others as u64);
+    write_number(b" ", most as u64);
+    lend(b"", 2, &start, &step, &bad, room, others, most, ENOUGH);
 }
 
-// Ring with this large room.
-fn lend_fronts(name: &[u8], room: usize)
-    requires { ⌜ (4 ≤ room) × (room ≤ 65537) ⌝ }
-{
-    let mut states = [FILLED; 65537];
-    let mut levels = [FILLED as u32; 65537];
-    let mut path = [FILLED; 65539];
-    let most = room + 2;
-    write(name);
-    run_fronts(&mut states[..room], &mut levels[..room], &mut path[..most]);
+// A path store of two more than the room is enough, one more is not.
+fn short_stores(name: &[u8]) {
+    lend_stores(name, 4, 4, 5);
+    lend_stores(name, 4, 3, 6);
+    lend_stores(name, 3, 4, 6);
+    lend_stores(name, 1, 1, 6);
+    lend_stores(name, 1, 1, 3);
+    lend_stores(name, 1, 1, 2);
+    lend_stores(name, 0, 0, 2);
+    lend_stores(name, 0, 0, 1);
 }
 
 // A room of 65,536 is the largest.
-fn long_stores() {
-    lend_fronts(b"Ring, fronts of stores 65536 65536 65538", 65536);
-    lend_fronts(b"Ring, fronts of stores 65537 65537 65539", 65537);
+fn long_stores(name: &[u8]) {
+    lend_stores(name, 65536, 65536, 65538);
+    lend_stores(name, 65537, 65537, 65539);
 }
 
 // Ring with this start list, a bad list that uses bit 2, and a path store that is too short.
@@ -385,8 +355,7 @@ fn main() {
     odd_counts();
     many_clauses();
     bits();
-    unequal_stores();
-    small_stores();
-    long_stores();
+    short_stores(b"Ring, stores ");
+    long_stores(b"Ring, fronts of stores ");
     order();
 }
