@@ -28,7 +28,7 @@ pub fn exists(d: Damage, n: u32, k: usize, old: u64) -> bool {
     let way = d.way;
     let place = d.place;
     let here = place < k;
-    let allowed = d.number <= small_systems::size(n) as u64;
+    let allowed = d.number <= tables::size(n) as u64;
     let replaced = (way == REPLACED) & here & allowed & (d.number != old);
     let added = (way == ADDED) & (place <= k) & allowed;
     let one = ((way == REMOVED) | (way == TWICE)) & here;

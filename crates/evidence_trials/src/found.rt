@@ -14,7 +14,7 @@ fn collect(n: u32, dist: &[u32; 16], never: bool, list: &mut [u64; 20]) -> usize
     let mut k = 0;
     let mut s = 0;
     while s < 16 {
-        if s < small_systems::size(n) && (dist[s] == small_systems::NEVER) == never {
+        if s < tables::size(n) && (dist[s] == small_systems::NEVER) == never {
             list[k % 20] = s as u64;
             k = std::num::wrapping_add_usize(k, 1);
         }
@@ -26,9 +26,9 @@ fn collect(n: u32, dist: &[u32; 16], never: bool, list: &mut [u64; 20]) -> usize
 // Whether t can come after s, or at the beginning, where s is NO_STATE, and leads to a bad state.
 fn leads(n: u32, table: &[bool], doom: &[u32; 16], s: usize, t: usize) -> bool {
     let next = if s == NO_STATE {
-        small_systems::is_start(n, table, t)
+        tables::is_start(n, table, t)
     } else {
-        small_systems::is_step(n, table, s, t)
+        tables::is_step(n, table, s, t)
     };
     next & (doom[t % 16] != small_systems::NEVER)
 }

@@ -139,7 +139,7 @@ fn try_evidence(
 
 fn both(counts: &mut [u64; 102], n: u32, start: &[u64], step: &[u64], bad: &[u64]) {
     let mut table = [false; 288];
-    small_systems::table(n, start, step, bad, &mut table);
+    tables::table(n, start, step, bad, &mut table);
     try_evidence(counts, false, n, start, step, bad, &table);
     try_evidence(counts, true, n, start, step, bad, &table);
 }

@@ -172,7 +172,7 @@ fn is_stored(states: &[u64], levels: &[u32], i: u32, state: u64) -> bool {
 // Whether the state is in R(i).
 fn inside(start: &[u64], states: &[u64], levels: &[u32], i: u32, state: u64) -> bool {
     if i == 0 {
-        small_systems::list_holds(start, state)
+        tables::list_holds(start, state)
     } else {
         !is_stored(states, levels, i, state)
     }
@@ -190,9 +190,7 @@ fn walk(
 ) -> u64 {
     let mut state = 0;
     while state < end {
-        if small_systems::list_holds(list, state | later)
-            && inside(start, states, levels, i, state)
-        {
+        if tables::list_holds(list, state | later) && inside(start, states, levels, i, state) {
             return state;
         }
         state += 1;

@@ -106,7 +106,7 @@ pub fn enter_system(counts: &mut [u64; PLACES], n: u32, kind: u64, k: Known) {
     count(counts, KINDS + (kind % 8) as usize, 1);
     count(counts, NO_START, one(k.starts == 0));
     count(counts, NO_BAD, one(k.bads == 0));
-    count(counts, ALL_BAD, one(k.bads == small_systems::size(n)));
+    count(counts, ALL_BAD, one(k.bads == tables::size(n)));
     count(
         counts,
         NOT_REACHED,

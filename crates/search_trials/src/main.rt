@@ -205,10 +205,10 @@ fn lend(
 
 // Whether some state comes after s.
 fn goes_on(n: u32, table: &[bool], s: usize) -> bool {
-    let end = small_systems::size(n);
+    let end = tables::size(n);
     let mut t = 0;
     while t < end {
-        if small_systems::is_step(n, table, s, t) {
+        if tables::is_step(n, table, s, t) {
             return true;
         }
         t += 1;
@@ -235,7 +235,7 @@ fn know(k: counts::Known, start: bool, bad: bool, on: bool, doom: u32) -> counts
 fn survey(n: u32, table: &[bool]) -> counts::Known {
     let mut doom = [0u32; 1024];
     small_systems::distances(n, table, true, &mut doom);
-    let end = small_systems::size(n) % 1025;
+    let end = tables::size(n) % 1025;
     let mut k = counts::Known {
         m: 0,
         steps: small_systems::NEVER,
@@ -245,8 +245,8 @@ fn survey(n: u32, table: &[bool]) -> counts::Known {
     };
     let mut s = 0;
     while s < end {
-        let start = small_systems::is_start(n, table, s);
-        let bad = small_systems::is_bad(n, table, s);
+        let start = tables::is_start(n, table, s);
+        let bad = tables::is_bad(n, table, s);
         k = know(k, start, bad, goes_on(n, table, s), doom[s]);
         s += 1;
     }
@@ -328,7 +328,7 @@ fn trial(
     step: &[u64],
     bad: &[u64],
 ) {
-    small_systems::table(n, start, step, bad, table);
+    tables::table(n, start, step, bad, table);
     let k = survey(n, table);
     counts::enter_system(counts, n, kind, k);
     calls(counts, n, start, step, bad, table, k);

@@ -1,5 +1,5 @@
-// Small random systems, of 1 to 10 bits, and a walk over all their states. It shares no code with the crates that it is compared with: a clause is
-// tested literal by literal, a list clause by clause. Each function takes every argument.
+// Small random systems, of 1 to 10 bits, and a walk over all their states, on the tables of `tables`. It shares no code with the crates that it is
+// compared with. Each function takes every argument.
 
 // What `distances` says of a state that no way leads to.
 pub const NEVER: u32 = 0xFFFF_FFFF;
@@ -49,44 +49,6 @@ pub fn next(seed: u64) -> u64 {
     b ^ (b << 17)
 }
 
-// Whether the clause is true of the pair, literal by literal from bit 0 up.
-pub fn clause_holds(ones: u64, zeros: u64, pair: u64) -> bool {
-    let mut left = ones | zeros;
-    let mut k = 0u64;
-    while k < 64 {
-        if left == 0 {
-            return false;
-        }
-        let rest = left & (left - 1);
-        let bit = left ^ rest;
-        if pair & bit == 0 {
-            if zeros & bit != 0 {
-                return true;
-            }
-        } else if ones & bit != 0 {
-            return true;
-        }
-        left = rest;
-        k += 1;
-    }
-    false
-}
-
-// Whether every clause is true of the pair. A last mask alone is no clause.
-pub fn list_holds(list: &[u64], pair: u64) -> bool {
-    let mut j = 0;
-    while j < list.len() {
-        let second = j + 1;
-        if second < list.len() {
-            if !clause_holds(list[j], list[second], pair) {
-                return false;
-            }
-        }
-        j = second + 1;
-    }
-    true
-}
-
 // The first `count` numbers, or all if there are fewer.
 pub fn front<'a>(list: &'a [u64], count: usize) -> &'a [u64] {
     if count <= list.len() {
@@ -96,20 +58,10 @@ pub fn front<'a>(list: &'a [u64], count: usize) -> &'a [u64] {
     }
 }
 
-// The number of states.
-pub fn size(n: u32) -> usize {
-    1 << (n % 16)
-}
-
-// The low n bits.
-fn low(n: u32, bits: u64) -> u64 {
-    bits ^ ((bits >> (n % 16)) << (n % 16))
-}
-
 // Whether an explicit list is true of the state s with t one step later, or of s alone, where t is 0. With density d it is true of one half of d in
 // each row of 2^n on average.
 fn chosen(kind: u64, density: u64, n: u32, s: u64, t: u64, random: u64) -> bool {
-    let lucky = low(n % 16 + 1, random >> 20) < density;
+    let lucky = tables::low(n % 16 + 1, random >> 20) < density;
     let up = std::num::wrapping_sub_u64(t, s);
     let some = (kind == SOME) | (kind == DOWN) & (t <= s);
     let chain = (kind == CHAIN) & (up == 1) | (kind == LOOPS) & (up < 2);
@@ -141,7 +93,7 @@ fn counting(n: u32, j: u64) -> Clause {
     let c = j / 2 % 16;
     let bit = 1 << i;
     let two = bit | bit << 32;
-    let below = low(i as u32, NONE);
+    let below = tables::low(i as u32, NONE);
     if i == (n % 16) as u64 {
         return written(0, below);
     }
@@ -174,9 +126,9 @@ fn made(kind: u64, density: u64, n: u32, later: bool, j: u64, random: u64) -> Cl
     if kind == COUNTER {
         return counting(n, j);
     }
-    let s = low(n, j);
+    let s = tables::low(n, j);
     let t = j >> (n % 16);
-    let half = low(n, NONE);
+    let half = tables::low(n, NONE);
     let all = if later { half | half << 32 } else { half };
     Clause {
         there: !chosen(kind, density, n, s, t, random),
@@ -220,58 +172,13 @@ pub fn fill(kind: u64, density: u64, n: u32, later: bool, seed: u64, list: &mut 
     count
 }
 
-// Entry j of the table. The entries are rows of 2^n: row t says which states step to t, row 2^n which are start states, the row after it which are
-// bad.
-fn entry(n: u32, start: &[u64], step: &[u64], bad: &[u64], j: usize) -> bool {
-    let row = j as u64 >> (n % 16);
-    let end = size(n) as u64;
-    let state = low(n, j as u64);
-    if row < end {
-        return list_holds(step, state | row << 32);
-    }
-    if row == end {
-        list_holds(start, state)
-    } else {
-        list_holds(bad, state)
-    }
-}
-
-// The three lists written out, in 4^n + 2 * 2^n entries. What is behind them stays.
-pub fn table(n: u32, start: &[u64], step: &[u64], bad: &[u64], out: &mut [bool]) {
-    let end = std::num::wrapping_add_usize(1 << (n % 16 * 2), 2 << (n % 16));
-    let mut j = 0;
-    while j < end && j < out.len() {
-        out[j] = entry(n, start, step, bad, j);
-        j += 1;
-    }
-}
-
-// What row `row` of the table says of state s.
-fn at(n: u32, table: &[bool], s: usize, row: usize) -> bool {
-    let j = s | row << (n % 16);
-    if j < table.len() { table[j] } else { false }
-}
-
-pub fn is_start(n: u32, table: &[bool], s: usize) -> bool {
-    (s < size(n)) & at(n, table, s, size(n))
-}
-
-// The row of the bad states is odd, as 2^n is even.
-pub fn is_bad(n: u32, table: &[bool], s: usize) -> bool {
-    (s < size(n)) & at(n, table, s, size(n) | 1)
-}
-
-pub fn is_step(n: u32, table: &[bool], s: usize, t: usize) -> bool {
-    (s < size(n)) & (t < size(n)) & at(n, table, s, t)
-}
-
 // Distance 0 for each start state, or for each bad one.
 fn begin(n: u32, table: &[bool], back: bool, dist: &mut [u32]) {
-    let end = size(n);
+    let end = tables::size(n);
     let row = if back { end | 1 } else { end };
     let mut s = 0;
     while s < dist.len() {
-        let first = (s < end) & at(n, table, s, row);
+        let first = (s < end) & tables::at(n, table, s, row);
         dist[s] = if first { 0 } else { NEVER };
         s += 1;
     }
@@ -290,10 +197,10 @@ fn reach(dist: &mut [u32], from: usize, to: usize, d: u32) -> bool {
 
 // Pair j, if it is a step, taken in its direction or back.
 fn follow(n: u32, table: &[bool], back: bool, dist: &mut [u32], j: usize, d: u32) -> bool {
-    let s = low(n, j as u64) as usize;
+    let s = tables::low(n, j as u64) as usize;
     let t = j >> (n % 16);
     let from = if back { t } else { s };
-    at(n, table, s, t) && reach(dist, from, s ^ t ^ from, d)
+    tables::at(n, table, s, t) && reach(dist, from, s ^ t ^ from, d)
 }
 
 // All steps from states at distance d. Whether some state was reached.
@@ -322,7 +229,7 @@ pub fn distances(n: u32, table: &[bool], back: bool, dist: &mut [u32]) {
 
 // Whether each number is below 2^n.
 pub fn are_states(n: u32, list: &[u64]) -> bool {
-    let end = size(n) as u64;
+    let end = tables::size(n) as u64;
     let mut j = 0;
     while j < list.len() {
         if end <= list[j] {
@@ -350,9 +257,9 @@ fn mark(list: &[u64]) -> [bool; 1024] {
 // Whether s is listed and a start state, or not listed and bad, or steps into the list from outside, at t.
 fn breaks(n: u32, table: &[bool], inside: &[bool; 1024], s: usize, t: usize) -> bool {
     if inside[s % 1024] {
-        return is_start(n, table, s);
+        return tables::is_start(n, table, s);
     }
-    is_bad(n, table, s) | inside[t % 1024] & at(n, table, s, t)
+    tables::is_bad(n, table, s) | inside[t % 1024] & tables::at(n, table, s, t)
 }
 
 // Whether no start state is listed, every bad state is listed, and no state outside the list steps into it.
@@ -365,7 +272,7 @@ pub fn excludes(n: u32, table: &[bool], list: &[u64]) -> bool {
             n,
             table,
             &inside,
-            low(n, j) as usize,
+            tables::low(n, j) as usize,
             (j >> (n % 16)) as usize,
         ) {
             return false;
@@ -383,9 +290,9 @@ pub fn is_path(n: u32, table: &[bool], path: &[u64]) -> bool {
         let x = path[j];
         let s = x as usize;
         let right = if j == 0 {
-            is_start(n, table, s)
+            tables::is_start(n, table, s)
         } else {
-            is_step(n, table, last, s)
+            tables::is_step(n, table, last, s)
         };
         if !right {
             return false;
@@ -393,5 +300,5 @@ pub fn is_path(n: u32, table: &[bool], path: &[u64]) -> bool {
         last = s;
         j += 1;
     }
-    0 < j && is_bad(n, table, last)
+    0 < j && tables::is_bad(n, table, last)
 }

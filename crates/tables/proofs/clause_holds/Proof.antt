@@ -1,8 +1,8 @@
--- `small_systems::clause_holds` is safe and ends. The measure is how many literals there still can be. Assumes nothing.
+-- `tables::clause_holds` is safe and ends. The measure is how many literals there still can be. Assumes nothing.
 use Prim.Native.Nat.{_-_}
 use borrow.Author.Needs.{needs}
-use Rattle.small_systems.proofs.clause_holds.Statement.{statement}
-use Rattle.small_systems.proofs.clause_holds.Tie as tie
+use Rattle.tables.proofs.clause_holds.Statement.{statement}
+use Rattle.tables.proofs.clause_holds.Tie as tie
 
 abbrev Inv-loop : tie.InvT-loop
 Inv-loop ones zeros pair left₀ k₀ left k = Unit {0}
@@ -16,7 +16,6 @@ clause-holds-spec =
     (tie.spec
     Inv-loop
     μ-loop
-    (λ c. search needs)
     (λ c. search needs)
     (λ c. search needs)
     (λ c. search needs)

@@ -1,9 +1,9 @@
--- `small_systems::list_holds` is safe and ends. The measure is what is left of the length. Assumes nothing.
+-- `tables::list_holds` is safe and ends. The measure is what is left of the length. Assumes nothing.
 use Prim.Native.Nat.{_-_}
 use borrow.Author.Needs.{needs}
 use lib.ListN.{length}
-use Rattle.small_systems.proofs.list_holds.Statement.{statement}
-use Rattle.small_systems.proofs.list_holds.Tie as tie
+use Rattle.tables.proofs.list_holds.Statement.{statement}
+use Rattle.tables.proofs.list_holds.Tie as tie
 
 abbrev Inv-loop : tie.InvT-loop
 Inv-loop list pair j₀ j = Unit {0}

@@ -1,10 +1,10 @@
--- `small_systems::table` is safe and ends. The loop's invariant: the store keeps its length. The measure is how many entries of the table are left. Assumes nothing.
+-- `tables::table` is safe and ends. The loop's invariant: the store keeps its length. The measure is how many entries of the table are left. Assumes nothing.
 use Prim.Native.Nat.{_-_}
 use mathlib.Core.Path.{_≡_}
 use borrow.Author.Needs.{needs}
 use lib.ListN.{length}
-use Rattle.small_systems.proofs.table.Statement.{statement}
-use Rattle.small_systems.proofs.table.Tie as tie
+use Rattle.tables.proofs.table.Statement.{statement}
+use Rattle.tables.proofs.table.Tie as tie
 
 abbrev Inv-loop : tie.InvT-loop
 Inv-loop n start step bad out₀ end j₀ out j = length out ≡ length out₀
