@@ -55,11 +55,11 @@ const SHORTEST: usize = 39;
 
 const TOO_MANY: usize = 40;
 
-pub const CHECK: usize = 41;
+const CHECK: usize = 41;
 
-pub const WALK: usize = 42;
+const WALK: usize = 42;
 
-pub const NOT_ZERO: usize = 43;
+const NOT_ZERO: usize = 43;
 
 const OTHER: usize = 44;
 
@@ -75,18 +75,29 @@ pub struct Known {
     pub ends: usize,
 }
 
-// What a call did.
+// What a call did, and whether the evidence check and the walk accept its evidence and all else that was lent is zero.
 pub struct Seen {
     pub number: u32,
     pub said: u64,
     pub length: usize,
     pub questions: u32,
     pub digest: u64,
+    pub check: bool,
+    pub walk: bool,
+    pub zero: bool,
 }
 
-pub fn count(counts: &mut [u64; PLACES], at: usize, more: u64) {
+// The counts go from hand to hand by value, which takes a shorter proof than lending them.
+pub fn add(counts: [u64; PLACES], at: usize, more: u64) -> [u64; PLACES] {
+    let mut c = counts;
     let j = at % PLACES;
-    counts[j] = std::num::wrapping_add_u64(counts[j], more);
+    c[j] = std::num::wrapping_add_u64(c[j], more);
+    c
+}
+
+// One more, if it is so.
+fn count(counts: [u64; PLACES], at: usize, so: bool) -> [u64; PLACES] {
+    add(counts, at, one(so))
 }
 
 // One, if it is so.
@@ -101,48 +112,57 @@ pub fn most(m: usize) -> u32 {
 }
 
 // What is special about a system.
-pub fn enter_system(counts: &mut [u64; PLACES], n: u32, kind: u64, k: Known) {
-    count(counts, std::num::wrapping_sub_u32(n, 1) as usize, 1);
-    count(counts, KINDS + (kind % 8) as usize, 1);
-    count(counts, NO_START, one(k.starts == 0));
-    count(counts, NO_BAD, one(k.bads == 0));
-    count(counts, ALL_BAD, one(k.bads == tables::size(n)));
-    count(
-        counts,
+pub fn enter_system(counts: [u64; PLACES], n: u32, kind: u64, k: Known) -> [u64; PLACES] {
+    let c = add(counts, std::num::wrapping_sub_u32(n, 1) as usize, 1);
+    let c = add(c, KINDS + (kind % 8) as usize, 1);
+    let c = count(c, NO_START, k.starts == 0);
+    let c = count(c, NO_BAD, k.bads == 0);
+    let c = count(c, ALL_BAD, k.bads == tables::size(n));
+    let c = count(
+        c,
         NOT_REACHED,
-        one((k.bads != 0) & (k.steps == small_systems::NEVER)),
+        (k.bads != 0) & (k.steps == small_systems::NEVER),
     );
-    count(counts, DEAD_ENDS, one(k.ends != 0));
-    count(counts, DOOMED, k.m as u64);
+    let c = count(c, DEAD_ENDS, k.ends != 0);
+    add(c, DOOMED, k.m as u64)
 }
 
 // The first call of a system, with room m and allowance 3(m+2)(m+2), against the walk. Without a start state it ends with 14 after one question.
-fn enter_first(counts: &mut [u64; PLACES], k: Known, seen: Seen) {
-    count(counts, QUESTIONS, seen.questions as u64);
-    count(counts, ANSWERED, one(seen.number == 0));
-    count(counts, TOO_MANY, one(most(k.m) < seen.questions));
-    if k.starts == 0 {
-        let right = (seen.number == 14) & (seen.said == NEITHER) & (seen.questions == 1);
-        count(counts, VERDICT, one(!right));
-    } else {
-        enter_verdict(counts, k, seen);
+fn enter_first(counts: [u64; PLACES], k: Known, seen: Seen) -> [u64; PLACES] {
+    let c = add(counts, QUESTIONS, seen.questions as u64);
+    let c = count(c, ANSWERED, seen.number == 0);
+    let c = count(c, TOO_MANY, most(k.m) < seen.questions);
+    if k.starts != 0 {
+        return enter_verdict(c, k, seen);
     }
+    let right = (seen.number == 14) & (seen.said == NEITHER) & (seen.questions == 1);
+    count(c, VERDICT, !right)
 }
 
 // The verdict of the first call of a system with a start state.
-fn enter_verdict(counts: &mut [u64; PLACES], k: Known, seen: Seen) {
+fn enter_verdict(counts: [u64; PLACES], k: Known, seen: Seen) -> [u64; PLACES] {
     let reached = k.steps != small_systems::NEVER;
     let wanted = std::num::wrapping_add_u32(k.steps, 1) as usize;
-    let unsafe_said = seen.said == UNSAFE;
     let at = (seen.said % 2) as usize;
-    count(counts, SAID + at, 1);
-    count(counts, LENGTHS + at, seen.length as u64);
-    count(counts, GAVE_UP, one(seen.number != 0));
-    count(counts, VERDICT, one(seen.said != one(reached)));
-    count(counts, SHORTEST, one(unsafe_said & (seen.length != wanted)));
-    if unsafe_said & (counts[LONGEST] < seen.length as u64) {
-        counts[LONGEST] = seen.length as u64;
+    let c = add(counts, SAID + at, 1);
+    let c = add(c, LENGTHS + at, seen.length as u64);
+    let c = count(c, GAVE_UP, seen.number != 0);
+    let c = count(c, VERDICT, seen.said != one(reached));
+    if seen.said != UNSAFE {
+        return c;
     }
+    longest(
+        count(c, SHORTEST, seen.length != wanted),
+        seen.length as u64,
+    )
+}
+
+fn longest(counts: [u64; PLACES], length: u64) -> [u64; PLACES] {
+    let mut c = counts;
+    if c[LONGEST] < length {
+        c[LONGEST] = length;
+    }
+    c
 }
 
 // Whether two calls came to the same.
@@ -156,111 +176,108 @@ fn same(a: Seen, b: Seen) -> bool {
 
 // A later call of the system. With the allowance that was used it is the first again, and with one less it ends with 5. With less room it is the
 // first again, or ends with 6; without a start state it is the first again.
-fn enter_later(counts: &mut [u64; PLACES], turn: u64, first: Seen, seen: Seen) {
-    if turn == 1 || seen.number == 0 || (first.number == 14 && turn != 2) {
-        count(counts, OTHER, one(!same(first, seen)));
-        return;
+fn enter_later(counts: [u64; PLACES], turn: u64, first: Seen, seen: Seen) -> [u64; PLACES] {
+    if (turn == 1) | (seen.number == 0) | (first.number == 14) & (turn != 2) {
+        return count(counts, OTHER, !same(first, seen));
     }
     let spent = (seen.number == 5)
         & (std::num::wrapping_sub_u32(first.questions, seen.questions) == 1);
     let right = if turn == 2 { spent } else { seen.number == 6 };
-    count(counts, NUMBER, one(!right | (seen.said != NEITHER)));
+    count(counts, NUMBER, !right | (seen.said != NEITHER))
 }
 
 // What each call adds.
-fn enter_call(counts: &mut [u64; PLACES], seen: Seen) {
-    count(counts, CALLS, 1);
-    count(counts, SPENT, one(seen.number == 5));
-    count(counts, NO_ROOM, one(seen.number == 6));
-    count(counts, WITHOUT, one(seen.number == 14));
-    counts[DIGEST] = small_systems::next(counts[DIGEST] ^ seen.digest);
+fn enter_call(counts: [u64; PLACES], seen: Seen) -> [u64; PLACES] {
+    let c = add(counts, CALLS, 1);
+    let c = count(c, SPENT, seen.number == 5);
+    let c = count(c, NO_ROOM, seen.number == 6);
+    let c = count(c, WITHOUT, seen.number == 14);
+    let c = count(c, CHECK, !seen.check);
+    let c = count(c, WALK, !seen.walk);
+    let c = count(c, NOT_ZERO, !seen.zero);
+    stirred(c, seen.digest)
+}
+
+// The digest of all calls, with one call more.
+fn stirred(counts: [u64; PLACES], digest: u64) -> [u64; PLACES] {
+    let mut c = counts;
+    c[DIGEST] = small_systems::next(c[DIGEST] ^ digest);
+    c
 }
 
 // A turn's call entered.
-pub fn enter(counts: &mut [u64; PLACES], k: Known, turn: u64, first: Seen, seen: Seen) {
-    enter_call(counts, seen);
+pub fn enter(counts: [u64; PLACES], k: Known, turn: u64, first: Seen, seen: Seen) -> [u64; PLACES] {
+    let c = enter_call(counts, seen);
     if turn == 0 {
-        enter_first(counts, k, seen);
+        enter_first(c, k, seen)
     } else {
-        enter_later(counts, turn, first, seen);
+        enter_later(c, turn, first, seen)
     }
 }
 
 // Names of equal width, each with its number behind it.
-fn lines(counts: &[u64; PLACES], first: usize, names: &[u8]) {
-    let mut j = first;
-    let mut at = 0;
-    while at < names.len() {
-        let end = std::num::wrapping_add_usize(at, 25);
-        if at <= end {
-            if end <= names.len() {
-                io::write_all(1, &names[at..end]);
-                io::print_decimal(1, counts[j % PLACES]);
-                io::write_all(1, b"\n");
-            }
+fn lines(counts: &[u64; PLACES], names: &[u8]) {
+    let mut j = 0;
+    while j < PLACES {
+        let first = j * 25;
+        let end = first + 25;
+        if end <= names.len() {
+            io::write_all(1, &names[first..end]);
+            io::print_decimal(1, counts[j]);
+            io::write_all(1, b"\n");
         }
-        at += 25;
-        j = std::num::wrapping_add_usize(j, 1);
+        j += 1;
     }
 }
 
-fn write_systems(counts: &[u64; PLACES]) {
-    lines(
-        counts,
-        0,
-        b"systems of 1 bit         systems of 2 bits        systems of 3 bits        systems of 4 bits        systems of 5 bits        ",
-    );
-    lines(
-        counts,
-        5,
-        b"systems of 6 bits        systems of 7 bits        systems of 8 bits        systems of 9 bits        systems of 10 bits       ",
-    );
-    lines(
-        counts,
-        10,
-        b"no steps                 all steps                some steps               steps by short clauses   ",
-    );
-    lines(
-        counts,
-        14,
-        b"steps to the next        to the next and itself   steps down               a counter's steps        ",
-    );
-    lines(
-        counts,
-        18,
-        b"no start state           no bad state             all states bad           bad states not reached   states without a next    ",
-    );
-}
-
-fn write_calls(counts: &[u64; PLACES]) {
-    lines(
-        counts,
-        23,
-        b"safe                     unsafe                   states excluded          states in paths          sum of m                 ",
-    );
-    lines(
-        counts,
-        28,
-        b"sum of questions         sum of rooms used        longest path             calls                    ",
-    );
-    lines(
-        counts,
-        32,
-        b"room m sufficed          calls that gave 5        calls that gave 6        calls that gave 14       digest of all calls      ",
-    );
-    lines(
-        counts,
-        37,
-        b"gave up with room m      verdict differs          path length differs      too many questions       evidence check refuses   ",
-    );
-    lines(
-        counts,
-        42,
-        b"walk refuses             store not zero           other answer             number not 5 or 6        ",
-    );
-}
-
 pub fn write(counts: &[u64; PLACES]) {
-    write_systems(counts);
-    write_calls(counts);
+    lines(
+        counts,
+        b"systems of 1 bit         \
+        systems of 2 bits        \
+        systems of 3 bits        \
+        systems of 4 bits        \
+        systems of 5 bits        \
+        systems of 6 bits        \
+        systems of 7 bits        \
+        systems of 8 bits        \
+        systems of 9 bits        \
+        systems of 10 bits       \
+        no steps                 \
+        all steps                \
+        some steps               \
+        steps by short clauses   \
+        steps to the next        \
+        to the next and itself   \
+        steps down               \
+        a counter's steps        \
+        no start state           \
+        no bad state             \
+        all states bad           \
+        bad states not reached   \
+        states without a next    \
+        safe                     \
+        unsafe                   \
+        states excluded          \
+        states in paths          \
+        sum of m                 \
+        sum of questions         \
+        sum of rooms used        \
+        longest path             \
+        calls                    \
+        room m sufficed          \
+        calls that gave 5        \
+        calls that gave 6        \
+        calls that gave 14       \
+        digest of all calls      \
+        gave up with room m      \
+        verdict differs          \
+        path length differs      \
+        too many questions       \
+        evidence check refuses   \
+        walk refuses             \
+        store not zero           \
+        other answer             \
+        number not 5 or 6        ",
+    );
 }

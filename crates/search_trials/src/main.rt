@@ -54,48 +54,23 @@ fn is_yes(checked: evidence::Checked) -> bool {
     }
 }
 
-// Whether the evidence check accepts the evidence.
+// Whether the evidence check accepts the evidence. Where nothing was said there is none, and nothing to accept.
 fn check(said: u64, n: u32, start: &[u64], step: &[u64], bad: &[u64], list: &[u64]) -> bool {
-    if said == counts::SAFE {
-        return is_yes(evidence::check_excluded(n, start, step, bad, list));
+    match said {
+        counts::SAFE => is_yes(evidence::check_excluded(n, start, step, bad, list)),
+        counts::UNSAFE => is_yes(evidence::check_path(n, start, step, bad, list)),
+        _ => true,
     }
-    is_yes(evidence::check_path(n, start, step, bad, list))
 }
 
 // Whether the walk does.
 fn walk(said: u64, n: u32, table: &[bool], list: &[u64]) -> bool {
-    let right = if said == counts::SAFE {
-        small_systems::excludes(n, table, list)
-    } else {
-        small_systems::is_path(n, table, list)
+    let right = match said {
+        counts::SAFE => small_systems::excludes(n, table, list),
+        counts::UNSAFE => small_systems::is_path(n, table, list),
+        _ => true,
     };
-    small_systems::are_states(n, list) & right
-}
-
-// The evidence given to both. Where nothing was said there is none, and nothing to accept.
-fn accept(
-    counts: &mut [u64; counts::PLACES],
-    said: u64,
-    n: u32,
-    start: &[u64],
-    step: &[u64],
-    bad: &[u64],
-    table: &[bool],
-    list: &[u64],
-) {
-    if said == counts::NEITHER {
-        return;
-    }
-    counts::count(
-        counts,
-        counts::CHECK,
-        counts::one(!check(said, n, start, step, bad, list)),
-    );
-    counts::count(
-        counts,
-        counts::WALK,
-        counts::one(!walk(said, n, table, list)),
-    );
+    right & small_systems::are_states(n, list)
 }
 
 // Whether entry j of the store is zero, if there is one.
@@ -111,22 +86,15 @@ fn level_zero(levels: &[u32], j: usize) -> bool {
     }
 }
 
-// Whether all lent is zero that is not evidence. The path store is the longest.
-fn cleared(states: &[u64], levels: &[u32], path: &[u64], seen: counts::Seen) -> bool {
-    let front = if seen.said == counts::SAFE {
-        seen.length
-    } else {
-        0
-    };
-    let len = if seen.said == counts::UNSAFE {
-        seen.length
-    } else {
-        0
-    };
+// Whether all lent is zero that is not evidence, of k states. The path store is the longest.
+fn cleared(states: &[u64], levels: &[u32], path: &[u64], said: u64, k: usize) -> bool {
+    let front = if said == counts::SAFE { k } else { 0 };
+    let len = if said == counts::UNSAFE { k } else { 0 };
     let mut j = 0;
     while j < path.len() {
-        let clear = (j < front || is_zero(states, j)) && (j < len || is_zero(path, j));
-        if !clear || !level_zero(levels, j) {
+        let states_clear = (j < front) | is_zero(states, j);
+        let path_clear = (j < len) | is_zero(path, j);
+        if !(states_clear & path_clear & level_zero(levels, j)) {
             return false;
         }
         j += 1;
@@ -134,24 +102,13 @@ fn cleared(states: &[u64], levels: &[u32], path: &[u64], seen: counts::Seen) -> 
     true
 }
 
-// What is seen of a call.
-fn see(o: call::Outcome, list: &[u64]) -> counts::Seen {
-    let said = said(o);
-    let number = call::number(o);
-    let questions = call::questions(o);
-    let head = (number % 16) as u64 | said << 4 | (questions as u64) << 8;
-    counts::Seen {
-        number,
-        said,
-        length: list.len(),
-        questions,
-        digest: digest(head, list),
-    }
+// What a call did, as a number to begin a digest with.
+fn head(o: call::Outcome) -> u64 {
+    (call::number(o) % 16) as u64 | said(o) << 4 | (call::questions(o) as u64) << 8
 }
 
 // A call, looked at from every side.
 fn run(
-    counts: &mut [u64; counts::PLACES],
     n: u32,
     start: &[u64],
     step: &[u64],
@@ -164,33 +121,36 @@ fn run(
 ) -> counts::Seen {
     let outcome = search::search(n, start, step, bad, states, levels, path, allowance);
     let list = call::evidence(states, path, outcome);
-    let seen = see(outcome, list);
-    accept(counts, seen.said, n, start, step, bad, table, list);
-    counts::count(
-        counts,
-        counts::NOT_ZERO,
-        counts::one(!cleared(states, levels, path, seen)),
-    );
-    seen
+    let said = said(outcome);
+    counts::Seen {
+        number: call::number(outcome),
+        said,
+        length: list.len(),
+        questions: call::questions(outcome),
+        digest: digest(head(outcome), list),
+        check: check(said, n, start, step, bad, list),
+        walk: walk(said, n, table, list),
+        zero: cleared(states, levels, path, said, list.len()),
+    }
+}
+
+// Arrays for the stores. Functions of their own make them, so that the proof of who lends them need not look into them.
+fn filled() -> [u64; 1026] {
+    [FILLED; 1026]
+}
+
+fn filled_levels() -> [u32; 1026] {
+    [FILLED as u32; 1026]
 }
 
 // A call with stores of the planned room.
-fn lend(
-    counts: &mut [u64; counts::PLACES],
-    n: u32,
-    start: &[u64],
-    step: &[u64],
-    bad: &[u64],
-    table: &[bool],
-    p: Plan,
-) -> counts::Seen {
-    let mut states = [FILLED; 1024];
-    let mut levels = [FILLED as u32; 1024];
-    let mut path = [FILLED; 1026];
+fn lend(n: u32, start: &[u64], step: &[u64], bad: &[u64], table: &[bool], p: Plan) -> counts::Seen {
+    let mut states = filled();
+    let mut levels = filled_levels();
+    let mut path = filled();
     let room = p.room % 1025;
     let more = room + 2;
     run(
-        counts,
         n,
         start,
         step,
@@ -216,19 +176,23 @@ fn goes_on(n: u32, table: &[bool], s: usize) -> bool {
     false
 }
 
+// One more, if it is so.
+fn plus(count: usize, so: bool) -> usize {
+    std::num::wrapping_add_usize(count, counts::one(so) as usize)
+}
+
 // One state more is known.
 fn know(k: counts::Known, start: bool, bad: bool, on: bool, doom: u32) -> counts::Known {
-    let doomed = !start & (doom != small_systems::NEVER);
     counts::Known {
-        m: std::num::wrapping_add_usize(k.m, counts::one(doomed) as usize),
+        m: plus(k.m, !start & (doom != small_systems::NEVER)),
         steps: if start & (doom < k.steps) {
             doom
         } else {
             k.steps
         },
-        starts: std::num::wrapping_add_usize(k.starts, counts::one(start) as usize),
-        bads: std::num::wrapping_add_usize(k.bads, counts::one(bad) as usize),
-        ends: std::num::wrapping_add_usize(k.ends, counts::one(!on) as usize),
+        starts: plus(k.starts, start),
+        bads: plus(k.bads, bad),
+        ends: plus(k.ends, !on),
     }
 }
 
@@ -265,12 +229,12 @@ fn next_plan(p: Plan, m: usize, turn: u64, first: counts::Seen, seen: counts::Se
         };
     }
     let up = std::num::wrapping_add_usize(p.room, 1);
-    let low = if turn == 2 || seen.number != 6 {
+    let low = if (turn == 2) | (seen.number != 6) {
         p.low
     } else {
         up
     };
-    let high = if turn == 2 || seen.number == 6 {
+    let high = if (turn == 2) | (seen.number == 6) {
         p.high
     } else {
         p.room
@@ -285,15 +249,16 @@ fn next_plan(p: Plan, m: usize, turn: u64, first: counts::Seen, seen: counts::Se
 
 // All calls of a system: at most 3, and 11 to find the least room.
 fn calls(
-    counts: &mut [u64; counts::PLACES],
+    counts: [u64; counts::PLACES],
     n: u32,
     start: &[u64],
     step: &[u64],
     bad: &[u64],
     table: &[bool],
     k: counts::Known,
-) {
+) -> [u64; counts::PLACES] {
     let m = k.m;
+    let mut c = counts;
     let mut p = Plan {
         room: m,
         allowance: counts::most(m),
@@ -306,36 +271,45 @@ fn calls(
         length: 0,
         questions: 0,
         digest: 0,
+        check: true,
+        walk: true,
+        zero: true,
     };
     let mut turn = 0;
-    while turn < 16 && (turn < 3 || p.low < p.high) {
-        let seen = lend(counts, n, start, step, bad, table, p);
+    while turn < 16 && (turn < 3) | (p.low < p.high) {
+        let seen = lend(n, start, step, bad, table, p);
         first = if turn == 0 { seen } else { first };
-        counts::enter(counts, k, turn, first, seen);
+        let entered = counts::enter(c, k, turn, first, seen);
+        c = entered;
         p = next_plan(p, m, turn, first, seen);
         turn += 1;
     }
-    counts::count(counts, counts::ROOMS, p.high as u64);
+    counts::add(c, counts::ROOMS, p.high as u64)
 }
 
 // One system.
 fn trial(
-    counts: &mut [u64; counts::PLACES],
+    counts: [u64; counts::PLACES],
     table: &mut [bool],
     n: u32,
     kind: u64,
     start: &[u64],
     step: &[u64],
     bad: &[u64],
-) {
+) -> [u64; counts::PLACES] {
     tables::table(n, start, step, bad, table);
     let k = survey(n, table);
-    counts::enter_system(counts, n, kind, k);
-    calls(counts, n, start, step, bad, table, k);
+    let c = counts::enter_system(counts, n, kind, k);
+    calls(c, n, start, step, bad, table, k)
 }
 
 // System number i.
-fn system(counts: &mut [u64; counts::PLACES], table: &mut [bool], i: u64, shape: u64) {
+fn system(
+    counts: [u64; counts::PLACES],
+    table: &mut [bool],
+    i: u64,
+    shape: u64,
+) -> [u64; counts::PLACES] {
     let mut start = [0u64; 2048];
     let mut step = [0u64; 8192];
     let mut bad = [0u64; 2048];
@@ -353,7 +327,7 @@ fn system(counts: &mut [u64; counts::PLACES], table: &mut [bool], i: u64, shape:
         small_systems::front(&start, a),
         small_systems::front(&step, b),
         small_systems::front(&bad, c),
-    );
+    )
 }
 
 fn main() {
@@ -363,7 +337,8 @@ fn main() {
     let mut i = 0;
     while i < SYSTEMS {
         seed = small_systems::next(seed);
-        system(&mut counts, &mut table, i, seed);
+        let entered = system(counts, &mut table, i, seed);
+        counts = entered;
         i += 1;
     }
     counts::write(&counts);

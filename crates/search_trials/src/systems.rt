@@ -6,21 +6,28 @@ const SMALL: u64 = 5120;
 
 // The bits of system number i.
 pub fn bits_of(i: u64) -> u32 {
-    let large = SMALL <= i;
+    if i < SMALL { few_bits(i) } else { many_bits(i) }
+}
+
+fn few_bits(i: u64) -> u32 {
     match i % 16 {
-        0 => if large { 9 } else { 1 },
-        1 | 2 => if large { 9 } else { 2 },
-        3 | 4 | 5 | 6 => if large { 8 } else { 3 },
-        7 => if large { 7 } else { 3 },
-        8 | 9 | 10 | 11 | 12 => if large { 7 } else { 4 },
-        13 | 14 => if large { 7 } else { 5 },
-        _ => if !large {
-            6
-        } else if i % 64 == 15 {
-            10
-        } else {
-            7
-        },
+        0 => 1,
+        1 | 2 => 2,
+        3 | 4 | 5 | 6 | 7 => 3,
+        8 | 9 | 10 | 11 | 12 => 4,
+        13 | 14 => 5,
+        _ => 6,
+    }
+}
+
+fn many_bits(i: u64) -> u32 {
+    if i % 64 == 15 {
+        return 10;
+    }
+    match i % 16 {
+        0 | 1 | 2 => 9,
+        3 | 4 | 5 | 6 => 8,
+        _ => 7,
     }
 }
 
@@ -41,13 +48,13 @@ fn kind_in_turn(i: u64) -> u64 {
 // The kind of the steps. Explicit ones of 5 and 6 bits are few, since they have thousands of clauses; short clauses or a counter stand for the others.
 pub fn step_kind(n: u32, i: u64) -> u64 {
     let kind = kind_in_turn(i);
-    let all = n < 5 || n == 5 && i >> 8 & 7 == 0 || n == 6 && i >> 4 & 123 == 0;
+    let all = (n < 5) | (n == 5) & (i >> 8 & 7 == 0) | (n == 6) & (i >> 4 & 123 == 0);
     let short = (kind == small_systems::NOTHING) | (kind == small_systems::EVERYTHING);
-    if all || short && n < 9 {
+    if all | short & (n < 9) {
         return kind;
     }
     let line = (kind == small_systems::CHAIN) | (kind == small_systems::COUNTER);
-    if line && n < 8 {
+    if line & (n < 8) {
         small_systems::COUNTER
     } else {
         small_systems::CLAUSES

@@ -1,30 +1,23 @@
 -- `search_trials::lend` is safe and ends. A front part is as long as asked, since its array is no shorter. Assumes nothing.
-use borrow.Author.Needs.{needs}
 use native.Mathlib.Omega.{arith}
 use lib.ListN.{length-take}
+use borrow.Author.Needs.{needs}
 use Rattle.search_trials.proofs.lend.Statement.{statement}
 use Rattle.search_trials.proofs.lend.Tie as tie
-
-slice-aggregate-run : tie.Need-slice-aggregate-run
-slice-aggregate-run c = simp length-take (omega arith)
-
-slice-aggregate-run-2 : tie.Need-slice-aggregate-run-2
-slice-aggregate-run-2 c = simp length-take (omega arith)
-
-slice-aggregate-run-3 : tie.Need-slice-aggregate-run-3
-slice-aggregate-run-3 c = simp length-take (omega arith)
 
 pub lend-spec : {M : Type 1} → statement M
 lend-spec =
     tie.close
     (tie.spec
+    (λ c κs. search needs)
+    (λ c κs. search needs)
+    (λ c κs. search needs)
     (λ c. search needs)
     (λ c. search needs)
+    (λ c. simp length-take (omega arith))
     (λ c. search needs)
-    slice-aggregate-run
+    (λ c. simp length-take (omega arith))
     (λ c. search needs)
-    slice-aggregate-run-2
-    (λ c. search needs)
-    slice-aggregate-run-3
-    (λ c. search needs)
+    (λ c. simp length-take (omega arith))
+    (λ c κs. search needs)
     (λ c. search needs))

@@ -1,15 +1,14 @@
--- `search_trials::counts::lines` is safe and ends. The measure is what is left of the names. Assumes nothing.
+-- `search_trials::counts::lines` is safe and ends. The measure is how many lines are left. Assumes nothing.
 use Prim.Native.Nat.{_-_}
 use borrow.Author.Needs.{needs}
-use lib.ListN.{length}
 use Rattle.search_trials.proofs.counts.lines.Statement.{statement}
 use Rattle.search_trials.proofs.counts.lines.Tie as tie
 
 abbrev Inv-loop : tie.InvT-loop
-Inv-loop counts first names j₀ at₀ t7 j at = Unit {0}
+Inv-loop counts names j₀ t6 j = Unit {0}
 
 abbrev μ-loop : tie.MeasureT-loop
-μ-loop counts first names j₀ at₀ t7 j at = length names - at
+μ-loop counts names j₀ t6 j = 46 - j
 
 pub lines-spec : {M : Type 1} → statement M
 lines-spec =
@@ -23,11 +22,12 @@ lines-spec =
     (λ c. search needs)
     (λ c. search needs)
     (λ c. search needs)
+    (λ c κs. search needs)
     (λ c. search needs)
     (λ c. search needs)
+    (λ c κs. search needs)
     (λ c. search needs)
-    (λ c. search needs)
-    (λ c. search needs)
+    (λ c κs. search needs)
     (λ c. search needs)
     (λ c. search needs)
     (λ c. search needs)
