@@ -18,32 +18,45 @@ const DIFFER: usize = 100;
 
 const QUESTIONS_WRONG: usize = 101;
 
-pub fn count(counts: &mut [u64; 102], at: usize, more: u64) {
+pub fn add(counts: [u64; 102], at: usize, more: u64) -> [u64; 102] {
+    let mut c = counts;
     let j = at % PLACES;
-    counts[j] = std::num::wrapping_add_u64(counts[j], more);
+    c[j] = std::num::wrapping_add_u64(c[j], more);
+    c
 }
 
-// An answer counted on its line.
+// One more, if it is so.
+fn count(counts: [u64; 102], at: usize, so: bool) -> [u64; 102] {
+    if so { add(counts, at, 1) } else { counts }
+}
+
+// The digest of all answers, with one answer more.
+fn stirred(counts: [u64; 102], answer: u64) -> [u64; 102] {
+    let mut c = counts;
+    c[DIGEST] = small_systems::next(c[DIGEST] ^ answer);
+    c
+}
+
+// An answer counted on its line. The counts come and go by value, which takes a shorter proof than lending them to each function.
 pub fn enter(
-    counts: &mut [u64; 102],
+    counts: [u64; 102],
     line: u64,
     path: bool,
     said: evidence::Checked,
     wanted: u64,
     k: usize,
-) {
+) -> [u64; 102] {
     let a = checks::answer(said);
     let asked = checks::questions(said);
     let right = checks::questions_right(path, a, k, asked);
-    count(counts, (line % 24 * 4 + a % 4) as usize, 1);
-    count(counts, DIFFER, if a == wanted { 0 } else { 1 });
-    count(counts, QUESTIONS_WRONG, if right { 0 } else { 1 });
-    count(
-        counts,
-        QUESTIONS,
-        if a == checks::YES { asked as u64 } else { 0 },
-    );
-    counts[DIGEST] = small_systems::next(counts[DIGEST] ^ a);
+    let c = add(counts, (line % 24 * 4 + a % 4) as usize, 1);
+    let c = count(c, DIFFER, a != wanted);
+    let c = count(c, QUESTIONS_WRONG, !right);
+    let c = stirred(c, a);
+    if a != checks::YES {
+        return c;
+    }
+    add(c, QUESTIONS, asked as u64)
 }
 
 pub fn report(name: &[u8], number: u64) {
@@ -61,53 +74,54 @@ pub fn write_name(names: &[u8], first: usize, width: usize) {
     }
 }
 
-// A line of the counts: four numbers.
-fn write_four(counts: &[u64; 102], first: usize) {
-    report(b" ", counts[first % PLACES]);
-    report(
-        b" ",
-        counts[std::num::wrapping_add_usize(first, 1) % PLACES],
-    );
-    report(
-        b" ",
-        counts[std::num::wrapping_add_usize(first, 2) % PLACES],
-    );
-    report(
-        b" ",
-        counts[std::num::wrapping_add_usize(first, 3) % PLACES],
-    );
+// The name of line j, behind a line feed.
+fn write_way(j: usize) {
     io::write_all(1, b"\n");
+    write_name(
+        b"excluded states path            the other check ",
+        j / 8 % 3 * 16,
+        16,
+    );
+    write_name(
+        b"kept    removed replacedadded   swapped reversedtwice   empty   ",
+        j % 8 * 8,
+        8,
+    );
 }
 
+// Lines of four numbers.
 fn write_ways(counts: &[u64; 102]) {
     io::write_all(
         1,
-        b"                         yes, no, refused with 7, refused otherwise\n",
+        b"                         yes, no, refused with 7, refused otherwise",
     );
     let mut j = 0;
-    while j < 24 {
-        write_name(
-            b"excluded states path            the other check ",
-            j / 8 * 16,
-            16,
-        );
-        write_name(
-            b"kept    removed replacedadded   swapped reversedtwice   empty   ",
-            j % 8 * 8,
-            8,
-        );
-        write_four(counts, j * 4);
+    while j < SAFE {
+        if j % 4 == 0 {
+            write_way(j / 4);
+        }
+        report(b" ", counts[j]);
         j += 1;
     }
 }
 
+// The six numbers behind the answers.
 fn write_totals(counts: &[u64; 102]) {
-    report(b"safe evidence         ", counts[SAFE]);
-    report(b"\nunsafe evidence       ", counts[UNSAFE]);
-    report(b"\nquestions of all yes  ", counts[QUESTIONS]);
-    report(b"\ndigest of all answers ", counts[DIGEST]);
-    report(b"\nanswered otherwise    ", counts[DIFFER]);
-    report(b"\nwrong question counts ", counts[QUESTIONS_WRONG]);
+    let mut j = 0;
+    while j < 6 {
+        write_name(
+            b"\nsafe evidence         \
+            \nunsafe evidence       \
+            \nquestions of all yes  \
+            \ndigest of all answers \
+            \nanswered otherwise    \
+            \nwrong question counts ",
+            j * 23,
+            23,
+        );
+        io::print_decimal(1, counts[SAFE + j]);
+        j += 1;
+    }
     io::write_all(1, b"\n");
 }
 

@@ -39,13 +39,12 @@ pub fn exists(d: Damage, n: u32, k: usize, old: u64) -> bool {
 
 // How long the damaged list is.
 pub fn length(way: u64, k: usize) -> usize {
-    if way == REMOVED {
-        return std::num::wrapping_sub_usize(k, 1);
+    match way {
+        REMOVED => std::num::wrapping_sub_usize(k, 1),
+        ADDED | TWICE => std::num::wrapping_add_usize(k, 1),
+        EMPTY => 0,
+        _ => k,
     }
-    if way == ADDED || way == TWICE {
-        return std::num::wrapping_add_usize(k, 1);
-    }
-    if way == EMPTY { 0 } else { k }
 }
 
 // Where entry j of the damaged list stood.
@@ -55,10 +54,10 @@ fn source(way: u64, place: usize, k: usize, j: usize) -> usize {
     if way == REVERSED {
         return std::num::wrapping_sub_usize(k, up);
     }
-    if way == REMOVED && place <= j || way == SWAPPED && place == j {
+    if (way == REMOVED) & (place <= j) | (way == SWAPPED) & (place == j) {
         return up;
     }
-    if (way == ADDED || way == TWICE) && place < j || way == SWAPPED && place == down {
+    if ((way == ADDED) | (way == TWICE)) & (place < j) | (way == SWAPPED) & (place == down) {
         return down;
     }
     j
@@ -66,7 +65,7 @@ fn source(way: u64, place: usize, k: usize, j: usize) -> usize {
 
 // Entry j of the damaged list.
 fn entry(d: Damage, list: &[u64; 20], k: usize, j: usize) -> u64 {
-    if j == d.place && (d.way == REPLACED || d.way == ADDED) {
+    if (j == d.place) & ((d.way == REPLACED) | (d.way == ADDED)) {
         return d.number;
     }
     list[source(d.way, d.place, k, j) % 20]

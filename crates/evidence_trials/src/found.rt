@@ -14,7 +14,7 @@ fn collect(n: u32, dist: &[u32; 16], never: bool, list: &mut [u64; 20]) -> usize
     let mut k = 0;
     let mut s = 0;
     while s < 16 {
-        if s < tables::size(n) && (dist[s] == small_systems::NEVER) == never {
+        if (s < tables::size(n)) & ((dist[s] == small_systems::NEVER) == never) {
             list[k % 20] = s as u64;
             k = std::num::wrapping_add_usize(k, 1);
         }
@@ -39,12 +39,9 @@ fn choose(n: u32, table: &[bool], doom: &[u32; 16], s: usize, far: bool) -> usiz
     let mut t = 0;
     while t < 16 {
         let other = doom[best % 16];
-        let better = if far {
-            other < doom[t]
-        } else {
-            doom[t] < other
-        };
-        if (best == NO_STATE || better) && leads(n, table, doom, s, t) {
+        let here = doom[t];
+        let better = if far { other < here } else { here < other };
+        if ((best == NO_STATE) | better) & leads(n, table, doom, s, t) {
             best = t;
         }
         t += 1;
@@ -67,7 +64,7 @@ fn walk(
         list[k] = s as u64;
         let away = k < detours;
         k += 1;
-        s = if away || doom[s % 16] != 0 {
+        s = if away | (doom[s % 16] != 0) {
             choose(n, table, doom, s, away)
         } else {
             NO_STATE

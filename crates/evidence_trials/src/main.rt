@@ -31,14 +31,18 @@ fn compare(
     list: &[u64],
 ) {
     let said = checks::check(path, n, start, step, bad, list);
-    counts::enter(
-        counts,
-        line,
-        path,
-        said,
-        checks::wanted(path, n, table, list),
-        list.len(),
-    );
+    let wanted = checks::wanted(path, n, table, list);
+    let entered = counts::enter(*counts, line, path, said, wanted, list.len());
+    *counts = entered;
+}
+
+// The line that a damage is counted on: each way of one's own check, of excluded states or of paths, or of the other check.
+fn line(path: bool, own: bool, way: u64) -> u64 {
+    let way = way % 8;
+    if path != own {
+        return 16 + way;
+    }
+    if path { 8 + way } else { way }
 }
 
 // Case number `code`, if there is such a damage: the lowest bit says to which check it is given.
@@ -64,17 +68,10 @@ fn case(
         return;
     }
     let path = code % 2 == 1;
-    let group = if path != own {
-        2
-    } else if path {
-        1
-    } else {
-        0
-    };
     let made = damage::damaged(d, list, k);
     compare(
         counts,
-        group % 3 * 8 + d.way % 8,
+        line(path, own, d.way),
         path,
         n,
         start,
@@ -115,15 +112,13 @@ fn try_evidence(
 ) {
     let mut list = [0u64; 20];
     let found = found::find(second, n, table, &mut list);
-    counts::count(
-        counts,
-        if found.path {
-            counts::UNSAFE
-        } else {
-            counts::SAFE
-        },
-        1,
-    );
+    let place = if found.path {
+        counts::UNSAFE
+    } else {
+        counts::SAFE
+    };
+    let entered = counts::add(*counts, place, 1);
+    *counts = entered;
     cases(
         counts,
         found.path,

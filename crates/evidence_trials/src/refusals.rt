@@ -10,18 +10,16 @@ fn masks_in(list: u64, wrong: u64, masks: usize) -> usize {
 // What a check refuses, of a system with one list that is not empty and a listed number that is no state.
 fn refusal(path: bool, n: u32, wrong: u64, masks: usize, mask: u64) -> u64 {
     let list = [1u64 << 33; 1];
-    let start = [mask, 0];
-    let step = [mask, 0];
-    let bad = [mask, 0];
+    let clause = [mask, 0];
     let a = masks_in(0, wrong, masks);
     let b = masks_in(1, wrong, masks);
     let c = masks_in(2, wrong, masks);
     checks::number(checks::check(
         path,
         n,
-        small_systems::front(&start, a),
-        small_systems::front(&step, b),
-        small_systems::front(&bad, c),
+        small_systems::front(&clause, a),
+        small_systems::front(&clause, b),
+        small_systems::front(&clause, c),
         &list,
     ))
 }

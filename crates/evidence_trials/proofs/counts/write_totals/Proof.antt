@@ -1,0 +1,32 @@
+-- `evidence_trials::counts::write_totals` is safe and ends. The measure is how many lines are left. Assumes nothing.
+use Prim.Native.Nat.{_-_}
+use borrow.Author.Needs.{needs}
+use Rattle.evidence_trials.proofs.counts.write_totals.Statement.{statement}
+use Rattle.evidence_trials.proofs.counts.write_totals.Tie as tie
+
+abbrev Inv-loop : tie.InvT-loop
+Inv-loop counts j₀ t3 t4 j = Unit {0}
+
+abbrev μ-loop : tie.MeasureT-loop
+μ-loop counts j₀ t3 t4 j = 6 - j
+
+pub write-totals-spec : {M : Type 1} → statement M
+write-totals-spec =
+    tie.close
+    (tie.spec
+    Inv-loop
+    μ-loop
+    (λ c. search needs)
+    (λ c. search needs)
+    (λ c. search needs)
+    (λ c κs. search needs)
+    (λ c. search needs)
+    (λ c. search needs)
+    (λ c. search needs)
+    (λ c κs. search needs)
+    (λ c. search needs)
+    (λ c. search needs)
+    (λ c. search needs)
+    (λ c. search needs)
+    (λ c κs. search needs)
+    (λ c. search needs))
