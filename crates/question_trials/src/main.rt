@@ -53,9 +53,9 @@ fn literals(bits: u64, width: u64) -> u64 {
     2 + width % 3
 }
 
-// One literal as a mask, if it has the wanted sign.
-fn literal(byte: u64, sign: u64, wanted: u64, n: u64, kind: u64) -> u64 {
-    if sign % 2 != wanted {
+// One literal as a mask, if the clause has it and it has the wanted sign.
+fn literal(there: bool, byte: u64, sign: u64, wanted: u64, n: u64, kind: u64) -> u64 {
+    if !there | (sign % 2 != wanted) {
         return 0;
     }
     1u64 << (place(byte, n, kind) % 64)
@@ -64,27 +64,31 @@ fn literal(byte: u64, sign: u64, wanted: u64, n: u64, kind: u64) -> u64 {
 // The mask of a clause for one sign: four literals at most.
 fn mask(random: u64, wanted: u64, n: u64, kind: u64, width: u64) -> u64 {
     let count = literals(random >> 40, width);
-    let a = if 0 < count {
-        literal(random % 256, random >> 32, wanted, n, kind)
-    } else {
-        0
-    };
-    let b = if 1 < count {
-        literal((random >> 8) % 256, random >> 33, wanted, n, kind)
-    } else {
-        0
-    };
-    let c = if 2 < count {
-        literal((random >> 16) % 256, random >> 34, wanted, n, kind)
-    } else {
-        0
-    };
-    let d = if 3 < count {
-        literal((random >> 24) % 256, random >> 35, wanted, n, kind)
-    } else {
-        0
-    };
-    a | b | c | d
+    literal(0 < count, random % 256, random >> 32, wanted, n, kind)
+        | literal(
+            1 < count,
+            (random >> 8) % 256,
+            random >> 33,
+            wanted,
+            n,
+            kind,
+        )
+        | literal(
+            2 < count,
+            (random >> 16) % 256,
+            random >> 34,
+            wanted,
+            n,
+            kind,
+        )
+        | literal(
+            3 < count,
+            (random >> 24) % 256,
+            random >> 35,
+            wanted,
+            n,
+            kind,
+        )
 }
 
 // Random clauses. Both masks of a clause come from one random number.
@@ -220,30 +224,20 @@ fn ask(
     }
 }
 
+// One more, if it is so.
+fn plus(count: u64, so: bool) -> u64 {
+    std::num::wrapping_add_u64(count, if so { 1 } else { 0 })
+}
+
 // One answer of the walk and one of the engine counted.
 fn count(t: Tally, walked: u64, asked: u64, seed: u64) -> Tally {
     let none = walked == NONE;
+    let state = if none { 0 } else { walked };
     Tally {
-        found: if none {
-            t.found
-        } else {
-            std::num::wrapping_add_u64(t.found, 1)
-        },
-        none: if none {
-            std::num::wrapping_add_u64(t.none, 1)
-        } else {
-            t.none
-        },
-        sum: if none {
-            t.sum
-        } else {
-            (t.sum % HALF + walked % HALF) % HALF
-        },
-        differ: if walked == asked {
-            t.differ
-        } else {
-            std::num::wrapping_add_u64(t.differ, 1)
-        },
+        found: plus(t.found, !none),
+        none: plus(t.none, none),
+        sum: (t.sum % HALF + state % HALF) % HALF,
+        differ: plus(t.differ, walked != asked),
         seed,
     }
 }
@@ -303,9 +297,9 @@ fn cut(
     t: Tally,
     shape: u64,
     sizes: u64,
-    start: [u64; 121],
-    list: [u64; 121],
-    states: [u64; 40],
+    start: &[u64; 121],
+    list: &[u64; 121],
+    states: &[u64; 40],
     levels: [u32; 40],
     random: u64,
 ) -> Tally {
@@ -323,9 +317,9 @@ fn cut(
         t,
         shape,
         sizes % 12 + 1,
-        &start[..starts],
-        &list[..clauses],
-        &states[..stores],
+        small_systems::front(start, starts),
+        small_systems::front(list, clauses),
+        small_systems::front(states, stores),
         &levels[..known],
         random,
     )
@@ -349,9 +343,9 @@ fn question(t: Tally) -> Tally {
         t,
         shape,
         sizes,
-        start,
-        list,
-        states,
+        &start,
+        &list,
+        &states,
         levels,
         small_systems::next(random),
     )
