@@ -97,10 +97,10 @@ fn counting(n: u32, j: u64) -> Clause {
     if i == (n % 16) as u64 {
         return written(0, below);
     }
-    if c == i && j % 2 == 0 {
-        return written(two, below);
-    }
     if c == i {
+        if j % 2 == 0 {
+            return written(two, below);
+        }
         return written(0, below | two);
     }
     let stays = 1 << c | bit << (j % 2 * 32);
@@ -111,29 +111,31 @@ fn counting(n: u32, j: u64) -> Clause {
     }
 }
 
-// Clause j of a list; of an explicit one that which is false of pair j, or state j, alone.
-fn made(kind: u64, density: u64, n: u32, later: bool, j: u64, random: u64) -> Clause {
-    if kind == NOTHING {
-        return Clause {
-            there: j == 0,
-            ones: 0,
-            zeros: 0,
-        };
-    }
-    if kind == CLAUSES {
-        return written(literals(n, later, 1, random), literals(n, later, 0, random));
-    }
-    if kind == COUNTER {
-        return counting(n, j);
-    }
+// Clause j of an explicit list: that which is false of pair j, or state j, alone.
+fn explicit(kind: u64, density: u64, n: u32, later: bool, j: u64, random: u64) -> Clause {
     let s = tables::low(n, j);
     let t = j >> (n % 16);
     let half = tables::low(n, NONE);
     let all = if later { half | half << 32 } else { half };
+    let pair = s | t << 32;
     Clause {
         there: !chosen(kind, density, n, s, t, random),
-        ones: all ^ (s | t << 32),
-        zeros: s | t << 32,
+        ones: all ^ pair,
+        zeros: pair,
+    }
+}
+
+// Clause j of a list.
+fn made(kind: u64, density: u64, n: u32, later: bool, j: u64, random: u64) -> Clause {
+    match kind {
+        NOTHING => Clause {
+            there: j == 0,
+            ones: 0,
+            zeros: 0,
+        },
+        CLAUSES => written(literals(n, later, 1, random), literals(n, later, 0, random)),
+        COUNTER => counting(n, j),
+        _ => explicit(kind, density, n, later, j, random),
     }
 }
 
@@ -150,17 +152,19 @@ fn put(list: &mut [u64], count: usize, c: Clause) -> usize {
     count
 }
 
+// How many clauses a list can have.
+fn most(kind: u64, density: u64, n: u32, later: bool) -> u64 {
+    let bits = if later { n % 16 * 2 } else { n % 16 };
+    match kind {
+        CLAUSES => density % (1 << 32),
+        COUNTER => (n % 16 * 32) as u64 + density % 2,
+        _ => 1 << (bits % 32),
+    }
+}
+
 // A random list: of steps, or of states alone. The count of masks written.
 pub fn fill(kind: u64, density: u64, n: u32, later: bool, seed: u64, list: &mut [u64]) -> usize {
-    let bits = if later { n % 16 * 2 } else { n % 16 };
-    let most = if kind == CLAUSES {
-        density
-    } else if kind == COUNTER {
-        (n % 16 * 32) as u64 + density % 2
-    } else {
-        1 << (bits % 32)
-    };
-    let end = most % (1 << 32);
+    let end = most(kind, density, n, later);
     let mut random = seed;
     let mut count = 0;
     let mut j = 0;
@@ -172,14 +176,20 @@ pub fn fill(kind: u64, density: u64, n: u32, later: bool, seed: u64, list: &mut 
     count
 }
 
-// Distance 0 for each start state, or for each bad one.
+// Distance 0 for a start state, or for a bad one.
+fn first(n: u32, table: &[bool], back: bool, s: usize) -> u32 {
+    let first = if back {
+        tables::is_bad(n, table, s)
+    } else {
+        tables::is_start(n, table, s)
+    };
+    if first { 0 } else { NEVER }
+}
+
 fn begin(n: u32, table: &[bool], back: bool, dist: &mut [u32]) {
-    let end = tables::size(n);
-    let row = if back { end | 1 } else { end };
     let mut s = 0;
     while s < dist.len() {
-        let first = (s < end) & tables::at(n, table, s, row);
-        dist[s] = if first { 0 } else { NEVER };
+        dist[s] = first(n, table, back, s);
         s += 1;
     }
 }
@@ -187,7 +197,7 @@ fn begin(n: u32, table: &[bool], back: bool, dist: &mut [u32]) {
 // A step from a state at distance d to one that had none. Whether it was so.
 fn reach(dist: &mut [u32], from: usize, to: usize, d: u32) -> bool {
     if from < dist.len() && to < dist.len() {
-        if dist[from] == d && dist[to] == NEVER {
+        if (dist[from] == d) & (dist[to] == NEVER) {
             dist[to] = std::num::wrapping_add_u32(d, 1);
             return true;
         }
@@ -300,5 +310,5 @@ pub fn is_path(n: u32, table: &[bool], path: &[u64]) -> bool {
         last = s;
         j += 1;
     }
-    0 < j && tables::is_bad(n, table, last)
+    (0 < j) & tables::is_bad(n, table, last)
 }

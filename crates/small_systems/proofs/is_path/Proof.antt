@@ -1,7 +1,7 @@
 -- `small_systems::is_path` is safe and ends. The measure is what is left of the path. Assumes nothing.
 use Prim.Native.Nat.{_-_}
-use borrow.Author.Needs.{needs}
 use lib.ListN.{length}
+use borrow.Author.Needs.{needs}
 use Rattle.small_systems.proofs.is_path.Statement.{statement}
 use Rattle.small_systems.proofs.is_path.Tie as tie
 
@@ -20,12 +20,11 @@ is-path-spec =
     (λ c. search needs)
     (λ c. search needs)
     (λ c. search needs)
+    (λ c κs. search needs)
+    (λ c κs. search needs)
     (λ c. search needs)
     (λ c. search needs)
     (λ c. search needs)
     (λ c. search needs)
-    (λ c. search needs)
-    (λ c. search needs)
-    (λ c. search needs)
-    (λ c. search needs)
+    (λ c κs. search needs)
     (λ c. search needs))
