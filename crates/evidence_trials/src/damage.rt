@@ -28,13 +28,16 @@ pub fn exists(d: Damage, n: u32, k: usize, old: u64) -> bool {
     let way = d.way;
     let place = d.place;
     let here = place < k;
+    let none = d.number == 0;
     let allowed = d.number <= tables::size(n) as u64;
-    let replaced = (way == REPLACED) & here & allowed & (d.number != old);
-    let added = (way == ADDED) & (place <= k) & allowed;
-    let one = ((way == REMOVED) | (way == TWICE)) & here;
-    let two = (way == SWAPPED) & here & (std::num::wrapping_sub_usize(k, place) != 1);
-    let all = ((way == KEPT) | (way == REVERSED) | (way == EMPTY)) & (place == 0);
-    replaced | added | (d.number == 0) & (one | two | all)
+    match way {
+        KEPT | REVERSED | EMPTY => none & (place == 0),
+        REMOVED | TWICE => none & here,
+        SWAPPED => none & here & (std::num::wrapping_sub_usize(k, place) != 1),
+        REPLACED => here & allowed & (d.number != old),
+        ADDED => (place <= k) & allowed,
+        _ => false,
+    }
 }
 
 // How long the damaged list is.

@@ -88,13 +88,11 @@ fn level_zero(levels: &[u32], j: usize) -> bool {
 
 // Whether all lent is zero that is not evidence, of k states. The path store is the longest.
 fn cleared(states: &[u64], levels: &[u32], path: &[u64], said: u64, k: usize) -> bool {
-    let front = if said == counts::SAFE { k } else { 0 };
-    let len = if said == counts::UNSAFE { k } else { 0 };
     let mut j = 0;
     while j < path.len() {
-        let states_clear = (j < front) | is_zero(states, j);
-        let path_clear = (j < len) | is_zero(path, j);
-        if !(states_clear & path_clear & level_zero(levels, j)) {
+        let state = (said == counts::SAFE) & (j < k) | is_zero(states, j);
+        let step = (said == counts::UNSAFE) & (j < k) | is_zero(path, j);
+        if !(state & step & level_zero(levels, j)) {
             return false;
         }
         j += 1;
@@ -258,27 +256,18 @@ fn calls(
     k: counts::Known,
 ) -> [u64; counts::PLACES] {
     let m = k.m;
-    let mut c = counts;
-    let mut p = Plan {
+    let plan = Plan {
         room: m,
         allowance: counts::most(m),
         low: 0,
         high: m,
     };
-    let mut first = counts::Seen {
-        number: 0,
-        said: 0,
-        length: 0,
-        questions: 0,
-        digest: 0,
-        check: true,
-        walk: true,
-        zero: true,
-    };
-    let mut turn = 0;
+    let first = lend(n, start, step, bad, table, plan);
+    let mut c = counts::enter(counts, k, 0, first, first);
+    let mut p = next_plan(plan, m, 0, first, first);
+    let mut turn = 1;
     while turn < 16 && (turn < 3) | (p.low < p.high) {
         let seen = lend(n, start, step, bad, table, p);
-        first = if turn == 0 { seen } else { first };
         let entered = counts::enter(c, k, turn, first, seen);
         c = entered;
         p = next_plan(p, m, turn, first, seen);

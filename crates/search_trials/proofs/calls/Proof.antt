@@ -5,10 +5,10 @@ use Rattle.search_trials.proofs.calls.Statement.{statement}
 use Rattle.search_trials.proofs.calls.Tie as tie
 
 abbrev Inv-loop : tie.InvT-loop
-Inv-loop n start step bad table k m c₀ p₀ first₀ turn₀ c p first turn = Unit {0}
+Inv-loop n start step bad table k m first c₀ p₀ turn₀ c p turn = Unit {0}
 
 abbrev μ-loop : tie.MeasureT-loop
-μ-loop n start step bad table k m c₀ p₀ first₀ turn₀ c p first turn = 16 - turn
+μ-loop n start step bad table k m first c₀ p₀ turn₀ c p turn = 16 - turn
 
 pub calls-spec : {M : Type 1} → statement M
 calls-spec =
@@ -16,6 +16,9 @@ calls-spec =
     (tie.spec
     Inv-loop
     μ-loop
+    (λ c κs. search needs)
+    (λ c κs. search needs)
+    (λ c κs. search needs)
     (λ c κs. search needs)
     (λ c. search needs)
     (λ c κs. search needs)

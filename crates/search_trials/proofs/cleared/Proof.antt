@@ -6,10 +6,10 @@ use Rattle.search_trials.proofs.cleared.Statement.{statement}
 use Rattle.search_trials.proofs.cleared.Tie as tie
 
 abbrev Inv-loop : tie.InvT-loop
-Inv-loop states levels path said k front len j₀ j = Unit {0}
+Inv-loop states levels path said k j₀ j = Unit {0}
 
 abbrev μ-loop : tie.MeasureT-loop
-μ-loop states levels path said k front len j₀ j = length path - j
+μ-loop states levels path said k j₀ j = length path - j
 
 pub cleared-spec : {M : Type 1} → statement M
 cleared-spec =
