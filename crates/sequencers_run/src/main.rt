@@ -68,6 +68,9 @@ const BAD: u64 = 2;
 // What the stores hold beforehand.
 const FILLED: u64 = 9;
 
+// The usual room and allowance.
+const ROOM: usize = 4;
+
 const ENOUGH: u32 = 1000;
 
 fn write(text: &[u8]) {
@@ -154,7 +157,6 @@ fn filled_levels() -> [u32; 65540] {
 
 // A call with stores of these lengths.
 fn lend(
-    name: &[u8],
     n: u32,
     start: &[u64],
     step: &[u64],
@@ -170,7 +172,6 @@ fn lend(
     let room = room % 65540;
     let others = others % 65540;
     let most = most % 65540;
-    write(name);
     run(
         n,
         start,
@@ -183,30 +184,42 @@ fn lend(
     );
 }
 
-// A call with room for four states.
-fn lend_four(name: &[u8], n: u32, start: &[u64], step: &[u64], bad: &[u64]) {
-    lend(name, n, start, step, bad, 4, 4, 6, ENOUGH);
+// A call with the usual room.
+fn lend_usual(name: &[u8], n: u32, start: &[u64], step: &[u64], bad: &[u64]) {
+    write(name);
+    lend(n, start, step, bad, ROOM, ROOM, ROOM + 2, ENOUGH);
+}
+
+// What of a call's room and allowance is not as usual.
+fn write_limits(room: usize, allowance: u32) {
+    if room != ROOM {
+        write_number(b", room ", room as u64);
+    }
+    if allowance != ENOUGH {
+        write_number(b", allowance ", wide(allowance));
+    }
 }
 
 // A call with this room and allowance, and the bad list of Ring.
 fn lend_room(name: &[u8], start: &[u64], step: &[u64], room: usize, allowance: u32) {
     let bad = THREE;
     let most = std::num::wrapping_add_usize(room, 2);
-    lend(name, 2, start, step, &bad, room, room, most, allowance);
+    write(name);
+    write_limits(room, allowance);
+    lend(2, start, step, &bad, room, room, most, allowance);
 }
 
-// Late with this room and allowance.
-fn lend_late(name: &[u8], room: usize, allowance: u32) {
+fn lend_late(room: usize, allowance: u32) {
     let start = ZERO;
     let step = LATE;
-    lend_room(name, &start, &step, room, allowance);
+    lend_room(b"Late", &start, &step, room, allowance);
 }
 
-// Ring without a start state, with this room and allowance.
-fn lend_nowhere(name: &[u8], room: usize, allowance: u32) {
+// Ring without a start state.
+fn lend_nowhere(room: usize, allowance: u32) {
     let start = [0u64; 2];
     let step = RING;
-    lend_room(name, &start, &step, room, allowance);
+    lend_room(b"Ring, start false", &start, &step, room, allowance);
 }
 
 // Ring with another list.
@@ -215,9 +228,9 @@ fn lend_list(name: &[u8], which: u64, list: &[u64]) {
     let step = RING;
     let bad = THREE;
     match which {
-        START => lend_four(name, 2, list, &step, &bad),
-        STEP => lend_four(name, 2, &start, list, &bad),
-        _ => lend_four(name, 2, &start, &step, list),
+        START => lend_usual(name, 2, list, &step, &bad),
+        STEP => lend_usual(name, 2, &start, list, &bad),
+        _ => lend_usual(name, 2, &start, &step, list),
     }
 }
 
@@ -230,18 +243,18 @@ fn lend_clause(name: &[u8], which: u64, ones: u64, zeros: u64) {
 fn lend_all_bad(name: &[u8]) {
     let step = RING;
     let none = [0u64; 0];
-    lend_four(name, 2, &none, &step, &none);
+    lend_usual(name, 2, &none, &step, &none);
 }
 
 fn sequencers() {
     let ring = RING;
     lend_list(b"Ring", STEP, &ring);
-    lend_late(b"Late", 4, ENOUGH);
-    lend_late(b"Late, room 2", 2, ENOUGH);
-    lend_late(b"Late, room 1", 1, ENOUGH);
-    lend_late(b"Late, allowance 17", 4, 17);
-    lend_late(b"Late, allowance 16", 4, 16);
-    lend_late(b"Late, allowance 0", 4, 0);
+    lend_late(ROOM, ENOUGH);
+    lend_late(2, ENOUGH);
+    lend_late(1, ENOUGH);
+    lend_late(ROOM, 17);
+    lend_late(ROOM, 16);
+    lend_late(ROOM, 0);
 }
 
 fn other_lists() {
@@ -249,25 +262,26 @@ fn other_lists() {
     lend_list(b"Chain", STEP, &chain);
     lend_all_bad(b"Ring, start and bad empty");
     lend_clause(b"Ring, bad false", BAD, 0, 0);
-    lend_nowhere(b"Ring, start false", 4, ENOUGH);
-    lend_nowhere(b"Ring, start false, room 0", 0, ENOUGH);
-    lend_nowhere(b"Ring, start false, allowance 1", 4, 1);
-    lend_nowhere(b"Ring, start false, allowance 0", 4, 0);
+    lend_nowhere(ROOM, ENOUGH);
+    lend_nowhere(0, ENOUGH);
+    lend_nowhere(ROOM, 1);
+    lend_nowhere(ROOM, 0);
 }
 
 // Each state steps to each: from the least with this bit 0 to the least with it 1. With no bit, start and bad are a false clause each.
-fn lend_free(name: &[u8], n: u32, bit: u64) {
+fn lend_free(n: u32, bit: u64) {
     let start = [0u64, bit];
     let step = [0u64; 0];
     let bad = [bit, 0u64];
-    lend_four(name, n, &start, &step, &bad);
+    write_number(b"n = ", wide(n));
+    lend(n, &start, &step, &bad, ROOM, ROOM, ROOM + 2, ENOUGH);
 }
 
 fn sizes() {
-    lend_free(b"n = 1", 1, 1);
-    lend_free(b"n = 32", 32, 0x8000_0000);
-    lend_free(b"n = 0", 0, 0);
-    lend_free(b"n = 33", 33, 1);
+    lend_free(1, 1);
+    lend_free(32, 0x8000_0000);
+    lend_free(0, 0);
+    lend_free(33, 1);
 }
 
 fn odd_counts() {
@@ -312,7 +326,7 @@ fn lend_stores(name: &[u8], room: usize, others: usize, most: usize) {
     write_number(name, room as u64);
     write_number(b" ", others as u64);
     write_number(b" ", most as u64);
-    lend(b"", 2, &start, &step, &bad, room, others, most, ENOUGH);
+    lend(2, &start, &step, &bad, room, others, most, ENOUGH);
 }
 
 // A path store of two more than the room is enough, one more is not.
@@ -337,7 +351,8 @@ fn long_stores(name: &[u8]) {
 fn lend_wrong(name: &[u8], n: u32, start: &[u64]) {
     let step = RING;
     let bad = [4u64, 0];
-    lend(name, n, start, &step, &bad, 4, 4, 5, ENOUGH);
+    write(name);
+    lend(n, start, &step, &bad, ROOM, ROOM, ROOM + 1, ENOUGH);
 }
 
 // Several refusals apply: the least is given.
