@@ -9,45 +9,39 @@ pub const STATE_REFUSED: u64 = 2;
 
 pub const REFUSED: u64 = 3;
 
+// What a check said: one of the four, the number of a refusal or 0, and the questions that were asked.
+pub struct Said {
+    pub answer: u64,
+    pub number: u64,
+    pub asked: usize,
+}
+
+fn taken(checked: evidence::Checked) -> Said {
+    match checked {
+        evidence::Checked::Yes(asked) => Said {
+            answer: YES,
+            number: 0,
+            asked,
+        },
+        evidence::Checked::No(asked) => Said {
+            answer: NO,
+            number: 0,
+            asked,
+        },
+        evidence::Checked::Refused(number) => Said {
+            answer: if number == 7 { STATE_REFUSED } else { REFUSED },
+            number: number as u64,
+            asked: 0,
+        },
+    }
+}
+
 // The check of paths, or of excluded states.
-pub fn check(
-    path: bool,
-    n: u32,
-    start: &[u64],
-    step: &[u64],
-    bad: &[u64],
-    list: &[u64],
-) -> evidence::Checked {
+pub fn check(path: bool, n: u32, start: &[u64], step: &[u64], bad: &[u64], list: &[u64]) -> Said {
     if path {
-        evidence::check_path(n, start, step, bad, list)
+        taken(evidence::check_path(n, start, step, bad, list))
     } else {
-        evidence::check_excluded(n, start, step, bad, list)
-    }
-}
-
-// The number that a check returns.
-pub fn number(said: evidence::Checked) -> u64 {
-    match said {
-        evidence::Checked::Yes(_) => 0,
-        evidence::Checked::No(_) => 0,
-        evidence::Checked::Refused(number) => number as u64,
-    }
-}
-
-// Yes, no, or a refusal.
-pub fn answer(said: evidence::Checked) -> u64 {
-    match said {
-        evidence::Checked::Yes(_) => YES,
-        evidence::Checked::No(_) => NO,
-        evidence::Checked::Refused(number) => if number == 7 { STATE_REFUSED } else { REFUSED },
-    }
-}
-
-pub fn questions(said: evidence::Checked) -> usize {
-    match said {
-        evidence::Checked::Yes(asked) => asked,
-        evidence::Checked::No(asked) => asked,
-        evidence::Checked::Refused(_) => 0,
+        taken(evidence::check_excluded(n, start, step, bad, list))
     }
 }
 

@@ -42,13 +42,12 @@ pub fn enter(
     counts: [u64; 102],
     line: u64,
     path: bool,
-    said: evidence::Checked,
+    said: checks::Said,
     wanted: u64,
     k: usize,
 ) -> [u64; 102] {
-    let a = checks::answer(said);
-    let asked = checks::questions(said);
-    let right = checks::questions_right(path, a, k, asked);
+    let a = said.answer;
+    let right = checks::questions_right(path, a, k, said.asked);
     let c = add(counts, (line % 24 * 4 + a % 4) as usize, 1);
     let c = count(c, DIFFER, a != wanted);
     let c = count(c, QUESTIONS_WRONG, !right);
@@ -56,7 +55,7 @@ pub fn enter(
     if a != checks::YES {
         return c;
     }
-    add(c, QUESTIONS, asked as u64)
+    add(c, QUESTIONS, said.asked as u64)
 }
 
 pub fn report(name: &[u8], number: u64) {

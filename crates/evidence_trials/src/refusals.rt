@@ -14,14 +14,15 @@ fn refusal(path: bool, n: u32, wrong: u64, masks: usize, mask: u64) -> u64 {
     let a = masks_in(0, wrong, masks);
     let b = masks_in(1, wrong, masks);
     let c = masks_in(2, wrong, masks);
-    checks::number(checks::check(
+    let said = checks::check(
         path,
         n,
         small_systems::front(&clause, a),
         small_systems::front(&clause, b),
         small_systems::front(&clause, c),
         &list,
-    ))
+    );
+    said.number
 }
 
 fn write_refusal(n: u32, wrong: u64, masks: usize, mask: u64) {
