@@ -4,31 +4,15 @@
 // How many systems of 1 to 6 bits come first.
 const SMALL: u64 = 5120;
 
-// The bits of system number i.
+// The bits of system number i, by its place in a row of 16. Every fourth row of many bits ends with 10.
 pub fn bits_of(i: u64) -> u32 {
-    if i < SMALL { few_bits(i) } else { many_bits(i) }
-}
-
-fn few_bits(i: u64) -> u32 {
-    match i % 16 {
-        0 => 1,
-        1 | 2 => 2,
-        3 | 4 | 5 | 6 | 7 => 3,
-        8 | 9 | 10 | 11 | 12 => 4,
-        13 | 14 => 5,
-        _ => 6,
+    let few = [1u32, 2, 2, 3, 3, 3, 3, 3, 4, 4, 4, 4, 4, 5, 5, 6];
+    let many = [9u32, 9, 9, 8, 8, 8, 8, 7, 7, 7, 7, 7, 7, 7, 7, 7];
+    let place = (i % 16) as usize;
+    if i < SMALL {
+        return few[place];
     }
-}
-
-fn many_bits(i: u64) -> u32 {
-    if i % 64 == 15 {
-        return 10;
-    }
-    match i % 16 {
-        0 | 1 | 2 => 9,
-        3 | 4 | 5 | 6 => 8,
-        _ => 7,
-    }
+    if i % 64 == 15 { 10 } else { many[place] }
 }
 
 // The kind of the steps, in turn.
