@@ -50,7 +50,7 @@ def holds(made, word):
 
 
 def main():
-    questions, x = 10000, 0x9E3779B97F4A7C15
+    questions, x = 20000, 0x9E3779B97F4A7C15
     found = none = total = 0
     for _ in range(questions):
         shape = next_number(x)
@@ -76,7 +76,8 @@ def main():
         target = 0 if not steps else x if (shape >> 8) % 8 == 0 else x % 2**n
         out = {s for j, s in enumerate(states) if j >= len(levels) or levels[j] >= i}
         inside = (lambda s: holds(start, s)) if i == 0 else (lambda s: s not in out)
-        answer = next((s for s in range(2**n) if holds(asked, s + (target << 32)) and inside(s)), None)
+        begin = 0 if shape >> 28 & 1 == 0 else x if (shape >> 29) % 8 == 0 else (x >> 16) % 2**n
+        answer = next((s for s in range(begin, 2**n) if holds(asked, s + (target << 32)) and inside(s)), None)
         if answer is None:
             none += 1
         else:

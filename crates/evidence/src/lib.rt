@@ -69,7 +69,7 @@ fn bad_outside(n: u32, bad: &[u64], states: &[u64]) -> question::Answer
     ensures { λ r. ⌜ answered r ≡ outside (2 ^ n) (now (states .entry)) (listTrue (now (bad .entry))) ⌝ }
 {
     let levels = [0u32; 1];
-    question::bad_in(n, &bad[..0], bad, states, &levels[..0], 1)
+    question::bad_in(n, &bad[..0], bad, states, &levels[..0], 1, 0)
 }
 
 // The least state that is not listed and steps to t.
@@ -78,7 +78,7 @@ fn step_outside(n: u32, step: &[u64], states: &[u64], t: u64) -> question::Answe
     ensures { λ r. ⌜ answered r ≡ outside (2 ^ n) (now (states .entry)) (λ s. listTrue (now (step .entry)) (pair s t)) ⌝ }
 {
     let levels = [0u32; 1];
-    question::step_in(n, &step[..0], step, states, &levels[..0], 1, t)
+    question::step_in(n, &step[..0], step, states, &levels[..0], 1, t, 0)
 }
 
 // Whether no state outside the list steps into it: a question for each listed state, until one has an answer. One question was asked before.

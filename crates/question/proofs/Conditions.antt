@@ -15,8 +15,8 @@ use Rattle.ic3.proofs.Least.{least-same}
 use Rattle.system.specs.System.{listTrue, pair}
 use Rattle.look.specs.Excluded.{excluded}
 use Rattle.look.specs.Condition.{width, stateOf, allowed, condition, fulfils}
-use Rattle.question.specs.Question.{inside, badIn, stepIn}
-use Rattle.question.specs.Asked.{asked}
+use Rattle.question.specs.Question.{inside, notBelow, badIn, stepIn}
+use Rattle.question.specs.Asked.{askedIn, asked}
 use Rattle.question.proofs.Pairs.{Same, list-same}
 
 module _ (s t : ℕ) (f : s < 2 ^ 32) where
@@ -51,18 +51,20 @@ module _ (n : ℕ) (start whole states levels : List ℕ) where
   state-small : (s : ℕ) → s < 2 ^ min n 32 → s < 2 ^ 32
   state-small s f = lt-of-lt-of-le f (pow-mono {i = min n 32} {j = 32} (omega arith))
 
-  pub step-start : (t : ℕ) → stepIn n start whole states levels 0 t ≡ asked n (condition start whole [] levels 0) t
-  unfolding stepIn asked
-  step-start t = least-same (2 ^ min n 32) _ _ (λ s f. in-start s t (state-small s f) start whole states levels)
+  pub step-start : (t from : ℕ) → stepIn n start whole states levels 0 t from ≡ asked n (condition start whole [] levels 0) t from
+  unfolding stepIn askedIn
+  step-start t from =
+      least-same (2 ^ min n 32) _ _ (λ s f. ap (λ x. notBelow from s && x) (in-start s t (state-small s f) start whole states levels))
 
-  pub step-stored : (i t : ℕ) → 0 < i → stepIn n start whole states levels i t ≡ asked n (condition [] whole states levels i) t
-  unfolding stepIn asked
-  step-stored zero t h = absurd (omega arith)
-  step-stored (suc i) t h = least-same (2 ^ min n 32) _ _ (λ s f. in-stored s t (state-small s f) start whole states levels i)
+  pub step-stored : (i t from : ℕ) → 0 < i → stepIn n start whole states levels i t from ≡ asked n (condition [] whole states levels i) t from
+  unfolding stepIn askedIn
+  step-stored zero t from h = absurd (omega arith)
+  step-stored (suc i) t from h =
+      least-same (2 ^ min n 32) _ _ (λ s f. ap (λ x. notBelow from s && x) (in-stored s t (state-small s f) start whole states levels i))
 
   -- a bad state
-  pub bad-step : (i : ℕ) → badIn n start whole states levels i ≡ stepIn n start whole states levels i 0
+  pub bad-step : (i from : ℕ) → badIn n start whole states levels i from ≡ stepIn n start whole states levels i 0 from
   unfolding badIn stepIn pair
-  bad-step i =
+  bad-step i from =
       least-same (2 ^ min n 32) _ _
-      (λ s f. let e : s ≡ s + 2 ^ 32 * 0 = omega arith in ap (λ x. inside start states levels i s && listTrue whole x) e)
+      (λ s f. let e : s ≡ s + 2 ^ 32 * 0 = omega arith in ap (λ x. notBelow from s && (inside start states levels i s && listTrue whole x)) e)

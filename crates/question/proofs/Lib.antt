@@ -5,7 +5,8 @@ pub mod Pairs
 pub mod Fulfilled
 pub mod Solving
 pub mod Walk
-pub mod Asking
+pub mod Ranges
+pub mod Blocks
 pub mod Conditions
 pub mod Model
 pub mod Listed

@@ -15,7 +15,7 @@ use Rattle.ic3.proofs.Least.{least-same}
 use Rattle.system.specs.System.{listTrue, pair}
 use Rattle.look.specs.Excluded.{excluded}
 use Rattle.look.proofs.States.{excluded-none}
-use Rattle.question.specs.Question.{inside, badIn, stepIn}
+use Rattle.question.specs.Question.{inside, notBelow, badIn, stepIn}
 use Rattle.question.proofs.Model.{excluded-first}
 
 excluded-listed : (i : ℕ) (xs : List ℕ) (s : ℕ) → excluded i xs [] s ≡ listed xs s
@@ -32,10 +32,18 @@ module _ (n : ℕ) (start list xs : List ℕ) (i : ℕ) (h : n ≤ 32) where
   unfolding inside
   least-outside p = rw (min-eq-left h) (least-same (2 ^ n) _ _ (λ s b. ap (λ x. not x && p s) (excluded-listed (suc i) xs s)))
 
-  pub bad-outside : badIn n start list xs [] (suc i) ≡ least (2 ^ n) (λ s. not (listed xs s) && listTrue list s)
+  pub bad-outside : badIn n start list xs [] (suc i) 0 ≡ least (2 ^ n) (λ s. not (listed xs s) && listTrue list s)
   unfolding badIn
   bad-outside = least-outside (listTrue list)
 
-  pub step-outside : (t : ℕ) → stepIn n start list xs [] (suc i) t ≡ least (2 ^ n) (λ s. not (listed xs s) && listTrue list (pair s t))
+  pub step-outside : (t : ℕ) → stepIn n start list xs [] (suc i) t 0 ≡ least (2 ^ n) (λ s. not (listed xs s) && listTrue list (pair s t))
   unfolding stepIn
   step-outside t = least-outside (λ s. listTrue list (pair s t))
+
+-- with nothing listed, every state is asked
+pub step-anywhere : (n : ℕ) (start list : List ℕ) (i t from : ℕ) → n ≤ 32
+    → stepIn n start list [] [] (suc i) t from ≡ least (2 ^ n) (λ s. notBelow from s && listTrue list (pair s t))
+unfolding stepIn inside listed
+step-anywhere n start list i t from h =
+    rw (min-eq-left h)
+    (least-same (2 ^ n) _ _ (λ s b. ap (λ x. notBelow from s && (not x && listTrue list (pair s t))) (excluded-listed (suc i) [] s)))

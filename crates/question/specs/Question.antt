@@ -1,9 +1,11 @@
--- The two kinds of question of the scope, over lent lists: a state of R(i) that is bad, and a state of R(i) that can step to a given state.
+-- The two kinds of question of the scope, over lent lists: a state of R(i) that is bad, and a state of R(i) that can step to a given state; of
+-- each the least that is not below a given number.
 -- Every input has its answer: lists and stores are taken as they are, and an n above 32 for 32.
 use Prim.Native.Nat.{ℕ, zero, suc, _^_, min}
-use mathlib.Core.Bool.{Bool, not, _&&_}
+use mathlib.Core.Bool.{Bool, true, not, _&&_}
 use mathlib.Core.List.{List}
 use mathlib.Core.Option.{Option, none, some}
+use lib.Dec.{ltb}
 use Rattle.ic3.specs.Model.{least}
 use Rattle.system.specs.System.{listTrue, pair}
 use Rattle.look.specs.Excluded.{excluded}
@@ -20,10 +22,17 @@ unfoldable pub inside : List ℕ → List ℕ → List ℕ → ℕ → ℕ → B
 inside start states levels zero s = listTrue start s
 inside start states levels (suc i) s = not (excluded (suc i) states levels s)
 
--- the least state of R(i) that is bad
-unfoldable pub badIn : ℕ → List ℕ → List ℕ → List ℕ → List ℕ → ℕ → Option ℕ
-badIn n start bad states levels i = least (2 ^ min n 32) (λ s. inside start states levels i s && listTrue bad s)
+-- s is not below the number `from`
+abbrev pub notBelow : ℕ → ℕ → Bool
+notBelow zero s = true
+notBelow (suc k) s = ltb k s
 
--- the least state of R(i) that steps to t
-unfoldable pub stepIn : ℕ → List ℕ → List ℕ → List ℕ → List ℕ → ℕ → ℕ → Option ℕ
-stepIn n start step states levels i t = least (2 ^ min n 32) (λ s. inside start states levels i s && listTrue step (pair s t))
+-- the least state of R(i) that is bad and not below `from`
+unfoldable pub badIn : ℕ → List ℕ → List ℕ → List ℕ → List ℕ → ℕ → ℕ → Option ℕ
+badIn n start bad states levels i from =
+    least (2 ^ min n 32) (λ s. notBelow from s && (inside start states levels i s && listTrue bad s))
+
+-- the least state of R(i) that steps to t and is not below `from`
+unfoldable pub stepIn : ℕ → List ℕ → List ℕ → List ℕ → List ℕ → ℕ → ℕ → ℕ → Option ℕ
+stepIn n start step states levels i t from =
+    least (2 ^ min n 32) (λ s. notBelow from s && (inside start states levels i s && listTrue step (pair s t)))

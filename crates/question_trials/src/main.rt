@@ -1,8 +1,8 @@
-// Random questions, asked of the engine and answered by a walk over all states from 0 up. The walk tests a clause literal by literal and shares
+// Random questions, half of them from a number on, asked of the engine and answered by a walk over all states from there up. The walk tests a clause literal by literal and shares
 // no code with the engine. The file `stdout` is from `expected.py`, which makes the same questions and answers them once more.
 
 // How many questions, and where the numbers start.
-const QUESTIONS: u64 = 10000;
+const QUESTIONS: u64 = 20000;
 
 const SEED: u64 = 0x9E37_79B9_7F4A_7C15;
 
@@ -182,7 +182,7 @@ fn inside(start: &[u64], states: &[u64], levels: &[u32], i: u32, state: u64) -> 
     }
 }
 
-// The first state below `end` in R(i) of which, with the later half beside it, the list is true.
+// The first state from `from` on and below `end` in R(i) of which, with the later half beside it, the list is true.
 fn walk(
     end: u64,
     start: &[u64],
@@ -191,8 +191,9 @@ fn walk(
     levels: &[u32],
     i: u32,
     later: u64,
+    from: u64,
 ) -> u64 {
-    let mut state = 0;
+    let mut state = from;
     while state < end {
         if tables::list_holds(list, state | later) && inside(start, states, levels, i, state) {
             return state;
@@ -212,11 +213,12 @@ fn ask(
     levels: &[u32],
     i: u32,
     target: u64,
+    from: u64,
 ) -> u64 {
     let r = if steps {
-        question::step_in(n, start, list, states, levels, i, target)
+        question::step_in(n, start, list, states, levels, i, target, from)
     } else {
-        question::bad_in(n, start, list, states, levels, i)
+        question::bad_in(n, start, list, states, levels, i, from)
     };
     match r {
         question::Answer::State(state) => state,
@@ -263,6 +265,17 @@ fn target_of(shape: u64, n: u64, random: u64) -> u64 {
     low_bits(random, n)
 }
 
+// Where the question begins: at 0, or at a state, or at any number at times.
+fn from_of(shape: u64, n: u64, random: u64) -> u64 {
+    if (shape >> 28) % 2 == 0 {
+        return 0;
+    }
+    if (shape >> 29) % 8 == 0 {
+        return random;
+    }
+    low_bits(random >> 16, n)
+}
+
 // Both answers to a question, counted.
 fn compare(
     t: Tally,
@@ -278,7 +291,17 @@ fn compare(
     let steps = asks_steps(shape);
     let target = target_of(shape, n, random);
     let later = if steps { target % HALF * HALF } else { 0 };
-    let walked = walk(1u64 << (n % 32), start, list, states, levels, i, later);
+    let from = from_of(shape, n, random);
+    let walked = walk(
+        1u64 << (n % 32),
+        start,
+        list,
+        states,
+        levels,
+        i,
+        later,
+        from,
+    );
     let asked = ask(
         steps,
         (n % 32) as u32,
@@ -288,6 +311,7 @@ fn compare(
         levels,
         i,
         target,
+        from,
     );
     count(t, walked, asked, random)
 }

@@ -21,7 +21,7 @@ use Rattle.search.specs.declared.react.Verdict.the-variants.{GaveUp}
 use Rattle.search.specs.declared.react.Phase.the-variants.{Look}
 
 -- a state of R(0) of which an empty list is true is a start state
-pub start-asked : (n : ℕ) (start levels : List ℕ) → badIn n start [] [] levels 0 ≡ least (2 ^ min n 32) (listTrue start)
+pub start-asked : (n : ℕ) (start levels : List ℕ) → badIn n start [] [] levels 0 0 ≡ least (2 ^ min n 32) (listTrue start)
 unfolding badIn inside listTrue
 start-asked n start levels = least-same (2 ^ min n 32) _ _ (λ s h. and-true (listTrue start s))
 

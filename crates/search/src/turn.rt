@@ -43,10 +43,10 @@ fn bad_state(
     requires { ⌜ Holds count (now states) (now levels) ⌝ }
     ensures { λ r. ⌜
         answered r
-        ≡ badIn n (now (start .entry)) (now (bad .entry)) (take count (now (states .entry))) (take count (now (levels .entry))) i
+        ≡ badIn n (now (start .entry)) (now (bad .entry)) (take count (now (states .entry))) (take count (now (levels .entry))) i 0
         ⌝ }
 {
-    question::bad_in(n, start, bad, &states[..count], &levels[..count], i)
+    question::bad_in(n, start, bad, &states[..count], &levels[..count], i, 0)
 }
 
 // The question for a state of R(i) that steps to s, over the stored states.
@@ -63,10 +63,10 @@ fn step_state(
     requires { ⌜ Holds count (now states) (now levels) ⌝ }
     ensures { λ r. ⌜
         answered r
-        ≡ stepIn n (now (start .entry)) (now (step .entry)) (take count (now (states .entry))) (take count (now (levels .entry))) i s
+        ≡ stepIn n (now (start .entry)) (now (step .entry)) (take count (now (states .entry))) (take count (now (levels .entry))) i s 0
         ⌝ }
 {
-    question::step_in(n, start, step, &states[..count], &levels[..count], i, s)
+    question::step_in(n, start, step, &states[..count], &levels[..count], i, s, 0)
 }
 
 // Step 2 (or 1).
@@ -225,7 +225,7 @@ fn all_turns(
 fn start_state(n: u32, start: &[u64], levels: &[u32]) -> question::Answer
     ensures { λ r. ⌜ answered r ≡ least (2 ^ min n 32) (listTrue (now (start .entry))) ⌝ }
 {
-    question::bad_in(n, start, &start[..0], &start[..0], levels, 0)
+    question::bad_in(n, start, &start[..0], &start[..0], levels, 0, 0)
 }
 
 // The whole search: the question for a start state, then turn after turn from step 1 on.

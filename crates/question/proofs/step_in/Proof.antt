@@ -11,11 +11,11 @@ returns : tie.Need-returns
 returns c =
     let s = c .before .before .before .before .before .before .before in
     let z : s .args .i ≡ 0 = c .before .before .if1 .taken in
-    rw z ((rw z at (c .ask .ensures)) ∙ sym (step-start _ _ _ _ _ _))
+    rw z ((rw z at (c .ask .ensures)) ∙ sym (step-start _ _ _ _ _ _ _))
 
 returns-2 : tie.Need-returns-2
 returns-2 c =
-    c .ask2 .ensures ∙ sym (step-stored _ _ _ _ _ _ _ (pos-of-ne-zero (c .before .before .if1 .left)))
+    c .ask2 .ensures ∙ sym (step-stored _ _ _ _ _ _ _ _ (pos-of-ne-zero (c .before .before .if1 .left)))
 
 pub step-in-spec : {M : Type 1} → statement M
 step-in-spec =

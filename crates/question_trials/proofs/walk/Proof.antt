@@ -5,10 +5,10 @@ use Rattle.question_trials.proofs.walk.Statement.{statement}
 use Rattle.question_trials.proofs.walk.Tie as tie
 
 abbrev Inv-loop : tie.InvT-loop
-Inv-loop end start list states levels i later state₀ state = Unit {0}
+Inv-loop end start list states levels i later from state₀ state = Unit {0}
 
 abbrev μ-loop : tie.MeasureT-loop
-μ-loop end start list states levels i later state₀ state = end - state
+μ-loop end start list states levels i later from state₀ state = end - state
 
 pub walk-spec : {M : Type 1} → statement M
 walk-spec =
