@@ -90,7 +90,7 @@ fn least(
     Found::Pair(d.pair)
 }
 
-// The number of states, of which a state of 32 bits has the most.
+// The number of states of n bits; more than 32 count as 32.
 fn size(n: u32) -> u64
     ensures { λ r. ⌜ r ≡ 2 ^ min n 32 ⌝ }
 {
