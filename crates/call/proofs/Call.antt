@@ -23,7 +23,7 @@ use Rattle.ic3.proofs.Start.{started}
 use Rattle.ic3.specs.Shape.{FitsEnding}
 use Rattle.ic3.proofs.Shape.{ending-fits}
 use Rattle.system.specs.System.{System, model, wrongSize, wrongCounts, wrongBits, refusalOf}
-use Rattle.call.specs.Call.{Stores, wrongStores, refused, Said, says-safe, says-unsafe, gives-up, refuses, Result, result, leaves, ended, called}
+use Rattle.call.specs.Call.{Stores, wrongStores, refused, Said, says-safe, says-unsafe, gives-up, refuses, Result, result, leaves, ended, rounds, called}
 use Rattle.call.specs.Promise.{Right, Within, StartAsked}
 
 -- the system's own refusals come first
@@ -47,7 +47,7 @@ module _ (y : System) (s : Stores) (allowance : ℕ) where
 
   pub called-searches : refused y s ≡ 0
       → called y s allowance
-      ≡ ended s (searched (model y) (length (s .states)) allowance .questions) (searched (model y) (length (s .states)) allowance .verdict)
+      ≡ ended s (searched rounds (model y) (length (s .states)) allowance .questions) (searched rounds (model y) (length (s .states)) allowance .verdict)
   unfolding called
   called-searches e = rw (e, called)
 
@@ -77,7 +77,7 @@ called-within y s allowance m D = pick (refused y s) refl
   where
     pick : (r : ℕ) → refused y s ≡ r → Within y s allowance (called y s allowance) m
     pick zero e =
-        let b = demand-3 (model y) .bounded m D in
+        let b = demand-3 rounds (model y) .bounded m D in
         let room = length (s .states) in
         rw (called-searches y s allowance e)
         (record {
@@ -126,7 +126,7 @@ called-asks y s allowance = pick (refused y s) refl
   where
     pick : (r : ℕ) → refused y s ≡ r → StartAsked y s allowance (called y s allowance)
     pick zero e =
-        let w = started (model y) (length (s .states)) allowance in
+        let w = started rounds (model y) (length (s .states)) allowance in
         let f = ended-14 (model y) allowance s _ _ w in
         rw (called-searches y s allowance e)
         (record { none = (λ n. (e, f .0 n .0, f .0 n .1), λ n. f .1 (n .1, n .2)); verdict = ended-start (model y) allowance s _ _ w })
@@ -157,7 +157,7 @@ module _ (y : System) (s : Stores) (allowance : ℕ) where
   called-right = pick (refused y s) refl
     where
       pick : (r : ℕ) → refused y s ≡ r → Right (model y) (called y s allowance .said) (called y s allowance .evidence)
-      pick zero e = rw (called-searches y s allowance e) (ended-right (model y) s _ _ (demand-2 (model y) (length (s .states)) allowance))
+      pick zero e = rw (called-searches y s allowance e) (ended-right (model y) s _ _ (demand-2 (model y) rounds (length (s .states)) allowance))
       pick (suc r) e = rw (called-refused y s allowance r e) tt
 
   -- a call that says something was given a system that is not refused
@@ -180,8 +180,8 @@ module _ (y : System) (s : Stores) (allowance : ℕ) where
 
       pick : (r : ℕ) → refused y s ≡ r → HasStart (model y)
       pick zero e =
-          let ending = searched (model y) (length (s .states)) allowance in
-          seen (ending .questions) (ending .verdict) (started (model y) (length (s .states)) allowance) (rw (called-searches y s allowance e) at f)
+          let ending = searched rounds (model y) (length (s .states)) allowance in
+          seen (ending .questions) (ending .verdict) (started rounds (model y) (length (s .states)) allowance) (rw (called-searches y s allowance e) at f)
       pick (suc r) e = absurd (rw (called-refused y s allowance r e) at f)
 
 -- ---- lengths
@@ -235,7 +235,7 @@ called-lengths y s allowance = pick (refused y s) refl
     pick : (r : ℕ) → refused y s ≡ r → Lengths s (called y s allowance .after)
     pick zero e =
         rw (called-searches y s allowance e)
-        (ended-lengths s _ _ (stores-fitting s (refused-none y s e .1) .path) (ending-fits (model y) (length (s .states)) allowance))
+        (ended-lengths s _ _ (stores-fitting s (refused-none y s e .1) .path) (ending-fits rounds (model y) (length (s .states)) allowance))
     pick (suc r) e = rw (called-refused y s allowance r e) (record { states = refl; levels = refl; path = refl })
 
 -- the evidence is longer than the room by two at most
@@ -250,5 +250,5 @@ pub called-evidence : (y : System) (s : Stores) (allowance : ℕ) → length (ca
 called-evidence y s allowance = pick (refused y s) refl
   where
     pick : (r : ℕ) → refused y s ≡ r → length (called y s allowance .evidence) ≤ length (s .states) + 2
-    pick zero e = rw (called-searches y s allowance e) (ended-evidence s _ _ (ending-fits (model y) (length (s .states)) allowance))
+    pick zero e = rw (called-searches y s allowance e) (ended-evidence s _ _ (ending-fits rounds (model y) (length (s .states)) allowance))
     pick (suc r) e = rw (called-refused y s allowance r e) (omega arith)

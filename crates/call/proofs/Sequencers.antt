@@ -10,9 +10,9 @@ use Rattle.base.proofs.Tests.{clash}
 use Rattle.masks.specs.Bit.{bit, somewhere}
 use Rattle.masks.proofs.Somewhere.{somewhere-false}
 use Rattle.ic3.specs.Model.{least}
-use Rattle.ic3.specs.Search.{levelOf, put, states, R, wanted, Verdict, safe, unsafe, gaveUp, judge, round, tested, found, deeper, settled, fits, kept, react, next, searchFrom, begun, searched}
+use Rattle.ic3.specs.Search.{levelOf, put, states, R, wanted, Verdict, safe, unsafe, gaveUp, judge, goesOn, round, tested, found, deeper, settled, fits, kept, react, next, searchFrom, begun, searched}
 use Rattle.system.specs.System.{System, literalTrue, clauseTrue, listTrue, pair, model, wrongSize, wrongCount, wrongBit, refusalOf}
-use Rattle.call.specs.Call.{Stores, Result, ended}
+use Rattle.call.specs.Call.{Stores, Result, ended, rounds}
 use Rattle.call.specs.Sequencers.{Step, given, ring, ringGiven, late, lateGiven, chain, chainGiven, Given, Sequencer, sequencer, sequencers, Ends, Worked}
 use Rattle.call.proofs.Call.{refused-stores, called-searches}
 
@@ -60,7 +60,7 @@ abbrev nothing : Stores
 nothing = record { states = []; levels = []; path = [] }
 
 abbrev searching : Sequencer → Result
-searching x = let e = searched (model (x .system)) (x .room) (x .allowance) in ended nothing (e .questions) (e .verdict)
+searching x = let e = searched rounds (model (x .system)) (x .room) (x .allowance) in ended nothing (e .questions) (e .verdict)
 
 -- the sequencer with what the search gives
 abbrev computed : Sequencer → Sequencer
@@ -68,7 +68,7 @@ computed x = let r = searching x in sequencer (x .system) (x .room) (x .allowanc
 
 -- THE COMPUTATION: the list is what comes out of it, and none of its systems is refused
 table : (any : ℕ) → map computed (sequencers any) ≡ sequencers any
-unfolding bit somewhere literalTrue clauseTrue listTrue pair model least levelOf put states R wanted judge round tested found deeper settled fits kept react next searchFrom begun searched ended
+unfolding bit somewhere literalTrue clauseTrue listTrue pair model least levelOf put states R wanted judge goesOn round tested found deeper settled fits kept react next searchFrom begun searched ended
 table any = refl
 
 accepted : (any : ℕ) → map (λ x. refusalOf (x .system)) (sequencers any) ≡ map (λ x. 0) (sequencers any)

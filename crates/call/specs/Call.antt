@@ -6,7 +6,7 @@ use lib.Dec.{eqb, ltb}
 use lib.ListN.{length}
 use Rattle.base.specs.Refusals.{_if_, _else_, mostStored}
 use Rattle.stores.specs.Over.{over}
-use Rattle.ic3.specs.Search.{Why, noRoom, spent, noStart, Verdict, safe, unsafe, gaveUp, searched}
+use Rattle.ic3.specs.Search.{Why, noRoom, spent, noStart, Verdict, safe, unsafe, gaveUp, Rounds, full, searched}
 use Rattle.system.specs.System.{System, model, refusalOf}
 
 -- the state store, the level store and the path store
@@ -58,10 +58,14 @@ ended s q (safe evidence) = result 0 says-safe q evidence (leaves s evidence [])
 ended s q (unsafe path) = result 0 says-unsafe q path (leaves s [] path)
 ended s q (gaveUp why) = result (whyNumber why) gives-up q [] (leaves s [] [])
 
+-- the rounds of step 4
+abbrev pub rounds : Rounds
+rounds = full
+
 -- THE CALL. The room is the length of the state store. A refusal reports zero questions and leaves the stores untouched.
 unfoldable pub called : System → Stores → ℕ → Result
 called y s allowance =
     elim (refused y s) [
-      | zero ↦ (let e = searched (model y) (length (s .states)) allowance in ended s (e .questions) (e .verdict))
+      | zero ↦ (let e = searched rounds (model y) (length (s .states)) allowance in ended s (e .questions) (e .verdict))
       | suc r ↦ result (suc r) refuses 0 [] s
     ]

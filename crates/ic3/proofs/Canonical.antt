@@ -11,7 +11,7 @@ use lib.ListN.{length}
 use Rattle.ic3.specs.Answers.{Least, Answers}
 use Rattle.base.proofs.Tests.{clash, first-false}
 use Rattle.ic3.specs.Model.{Model}
-use Rattle.ic3.specs.Search.{Entry, levelOf, put, R, Phase, look, settle, raise, wanted, Move, go, settled, tested, found, deeper, kept, react, begun, searched}
+use Rattle.ic3.specs.Search.{Entry, levelOf, put, R, Phase, look, settle, raise, wanted, Move, go, Rounds, settled, tested, found, deeper, kept, react, begun, searched}
 use Rattle.ic3.specs.Demands.{Reach, starts, steps, Leads, Unsafe}
 use Rattle.ic3.specs.Canonical.{Within, LeastFrom, Canonical, CanonicalPath}
 use Rattle.ic3.proofs.Least.{order}
@@ -41,9 +41,9 @@ module _ (M : Model) where
   C N st (settle k s ds) q = LeastFrom M (suc k) s ds
   C N st (raise i s todo) q = Unit {0}
 
-  module _ (room allowance : ℕ) where
+  module _ (r : Rounds) (room allowance : ℕ) where
     abbrev P : ℕ → Move → Type 0
-    P = Then M room allowance C (λ v q. CanonicalPath M v)
+    P = Then M r room allowance C (λ v q. CanonicalPath M v)
 
     found-least : (N : ℕ) (st : List Entry) → Kept M N st → (s q : ℕ) → Least (M .size) (wanted M N st look) s → P q (found N st s)
     unfolding found wanted
@@ -65,28 +65,28 @@ module _ (M : Model) where
         rest (x ∷ xs) c = c .1
 
     round-least : (N : ℕ) (st : List Entry) (i q : ℕ) → Lands (P q) N st i
-    round-least N st i q = record { next-level = λ j s todo a b e g. tt; gap = λ j a b g. tt; again = λ e t. tt }
+    round-least N st i q = record { next-level = λ j s todo a b e g. tt; gap = λ j a b t g. tt; again = λ e t. tt }
 
-    tested-least : (N : ℕ) (st : List Entry) (i : ℕ) (todo : List ℕ) (q : ℕ) → i < N → P q (tested N st i todo)
-    tested-least N st i todo q h =
-        tested-lands (P q) N st i todo h
+    tested-least : (N : ℕ) (st : List Entry) (i : ℕ) (todo : List ℕ) (q : ℕ) → 1 ≤ i → i < N → P q (tested r N st i todo)
+    tested-least N st i todo q o h =
+        tested-lands (P q) N st r i todo o h
         (record { same-level = λ s rest e g k. tt; next-levels = λ k. round-least N st (suc i) q })
 
     react-least : (N : ℕ) (st : List Entry) (ph : Phase) (o : Option ℕ) (q : ℕ) → Kept M N st → Stands M N st ph
-        → Answers (M .size) (wanted M N st ph) o → C N st ph q → P (suc q) (react room N st ph o)
+        → Answers (M .size) (wanted M N st ph) o → C N st ph q → P (suc q) (react r room N st ph o)
     unfolding react
     react-least N st look (some s) q K w a c = found-least N st K s (suc q) a
     react-least N st look none q K w a c =
-        round-lands (P (suc q)) (suc N) st N 1 (omega arith) (omega arith) (round-least (suc N) st 1 (suc q))
+        round-lands (P (suc q)) (suc N) st r N 1 (omega arith) (omega arith) (round-least (suc N) st 1 (suc q))
     react-least N st (settle k s ds) (some t) q K w a c = deeper-least N st K k s ds t (suc q) c a
     react-least N st (settle k s ds) none q K w a c = kept-least N (put st s (suc k)) k s ds (suc q) c
-    react-least N st (raise i s todo) (some t) q K w a c = tested-least N st i todo (suc q) (w .below)
-    react-least N st (raise i s todo) none q K w a c = tested-least N (put st s (suc i)) i todo (suc q) (w .below)
+    react-least N st (raise i s todo) (some t) q K w a c = tested-least N st i todo (suc q) (w .above) (w .below)
+    react-least N st (raise i s todo) none q K w a c = tested-least N (put st s (suc i)) i todo (suc q) (w .above) (w .below)
 
     -- the path of every search is canonical
-    pub path-canonical : CanonicalPath M (searched M room allowance .verdict)
+    pub path-canonical : CanonicalPath M (searched r M room allowance .verdict)
     unfolding begun searched
-    path-canonical = search-keeps M room allowance C (λ v q. CanonicalPath M v) react-least (λ N st ph K w c. tt) (λ e. tt) (λ l n. tt) (λ h. tt)
+    path-canonical = search-keeps M r room allowance C (λ v q. CanonicalPath M v) react-least (λ N st ph K w c. tt) (λ e. tt) (λ l n. tt) (λ h. tt)
 
   within-now : {k s : ℕ} → Reach M k s → Within M k s
   within-now {k} r = record { distance = k; few = omega arith; reach = r }

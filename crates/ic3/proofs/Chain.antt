@@ -1,4 +1,5 @@
--- Chain meets the exact bound: its three doomed states are listed, and the search is computed. Assumes nothing.
+-- Chain meets the exact bound, with full rounds and with shortened ones: its three doomed states are listed, and the searches are computed. Assumes
+-- nothing.
 use Prim.Native.Nat.{ℕ, zero, suc, _<_}
 use mathlib.Core.Bool.{true, false}
 use mathlib.Core.List.{[], _∷_}
@@ -6,9 +7,9 @@ use mathlib.Core.Path.{_≡_, refl, sym, _∙_}
 use native.Mathlib.Omega.{arith}
 use Rattle.base.proofs.Tests.{clash}
 use Rattle.ic3.specs.Model.{least}
-use Rattle.ic3.specs.Search.{levelOf, put, states, R, wanted, judge, round, settled, tested, found, deeper, fits, kept, react, next, searchFrom, begun, searched}
+use Rattle.ic3.specs.Search.{levelOf, put, states, R, wanted, judge, Rounds, full, shortened, goesOn, round, settled, tested, found, deeper, fits, kept, react, next, searchFrom, begun, searched}
 use Rattle.ic3.specs.Demands.{listed, Doomed, Number}
-use Rattle.ic3.specs.Exact.{chain, Met}
+use Rattle.ic3.specs.Exact.{chain, upTo, Met}
 use Rattle.ic3.proofs.Store.{listed-other}
 use Rattle.ic3.proofs.Frames.{leads-state}
 
@@ -41,6 +42,7 @@ chain-number =
     outside (suc (suc (suc zero))) h e = refl
     outside (suc (suc (suc (suc s)))) h e = absurd (omega arith)
 
-pub chain-meets : Met
-unfolding searched begun searchFrom next react found deeper fits kept settled tested round judge wanted R least levelOf put states
-chain-meets = record { m = chain-number; evidence = refl; asked = refl; most = refl }
+pub chain-meets : (r : Rounds) → Met r
+unfolding searched begun searchFrom next react found deeper fits kept settled tested round goesOn judge wanted R least levelOf put states upTo
+chain-meets full = record { m = chain-number; evidence = refl; asked = refl; most = refl }
+chain-meets shortened = record { m = chain-number; evidence = refl; asked = refl; most = refl }

@@ -1,4 +1,4 @@
--- The account of the exact bound.
+-- The account of the exact bounds, one for full and shortened rounds.
 --
 -- Frames give N ≤ 1 + level + steps for every way to a bad state. So the state of a duty sits exactly one level below the duty's: settling
 -- raises by one level; and a state is settled at most once at each N, since afterwards it sits too high to be a duty again. After a round that
@@ -7,7 +7,9 @@
 -- at the end of the last round, n = N - 1 and `done` the states settled at this N:
 --   in steps 2 and 3              q + n n ≤ 2 + 2 n + T + 2 n p + |done| + open duties
 --   in step 4 after N rounds      q + (those still to be tested at i, and those above i) + N N ≤ 2 + 2 N + T + 2 N σ
--- That each answer keeps it is shown in ExactRound and ExactKept. Assumes nothing.
+-- T is small while levels are taken. A round that finds no gap leaves a state at each of the levels 1 to n, and each settled state adds one. When a
+-- further state is stored, the duties for all higher levels are open, and are then settled at these: so before a round each level up to N is taken.
+-- That each answer keeps it is shown in ExactRound and ExactKept, what it comes to in ExactCounts, ExactTested and Exact. Assumes nothing.
 use Prim.Native.Nat.{ℕ, zero, suc, _+_, _*_, max, _≤_, _<_}
 use mathlib.Core.Bool.{true}
 use mathlib.Core.List.{List, [], _∷_}
@@ -18,7 +20,9 @@ use lib.ListN.{length}
 use Rattle.ic3.specs.Model.{Model}
 use Rattle.ic3.specs.Search.{Entry, levelOf, put, states, Phase, look, settle, raise}
 use Rattle.ic3.specs.Demands.{Leads, listed, Doomed, Distinct}
+use Rattle.ic3.specs.Exact.{upTo}
 use Rattle.ic3.proofs.Store.{level-put-other, Stored, total}
+use Rattle.ic3.proofs.ExactLayers.{Has}
 
 module _ (M : Model) where
   -- s is no start state and leads to a bad one in fewer than N steps
@@ -59,6 +63,12 @@ module _ (M : Model) where
     grew : p < length st → Fresh n p st
     lacks : Missing n st → Fresh n p st
 
+  -- one of those settled sits at level l
+  pub record SettledAt (st : List Entry) (done : List ℕ) (l : ℕ) : Type 0 where
+    pub state : ℕ
+    pub here : levelOf st state ≡ l
+    pub settled : listed done state ≡ true
+
   -- steps 2 and 3 with N = n + 1, where `duties` duties are open
   pub record Opened (n : ℕ) (st : List Entry) (duties q : ℕ) : Type 0 where
     pub sown : Stored (Sown (suc n)) st
@@ -70,6 +80,8 @@ module _ (M : Model) where
     pub ahead : (s : ℕ) → listed done s ≡ true → Done (suc n) st s
     pub fresh : Fresh n before st
     pub few : q + n * n ≤ 2 + 2 * n + total st + 2 * (n * before) + length done + duties
+    pub low : total st + upTo n ≤ suc n * before + length done
+    pub climbed : before < length st → (l : ℕ) → 1 ≤ l → l + duties ≤ suc n → SettledAt st done l
 
   -- step 4 after N rounds, where `todo` of level i are still to be tested
   pub record Testing (N : ℕ) (st : List Entry) (i : ℕ) (todo : List ℕ) (q : ℕ) : Type 0 where
@@ -78,6 +90,7 @@ module _ (M : Model) where
     pub enough : N ≤ max 1 (length st)
     pub failed : (s : ℕ) → levelOf st s ≡ 1 → (i ≡ 1 → listed todo s ≡ true → ⊥) → Missing N st
     pub few : q + (length todo + length (states (leb (suc i)) st)) + N * N ≤ 2 + 2 * N + total st + 2 * (N * length st)
+    pub upper : (l : ℕ) → i < l → l ≤ N → Has st l
 
   -- the account at each question
   abbrev pub C : ℕ → List Entry → Phase → ℕ → Type 0

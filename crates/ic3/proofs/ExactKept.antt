@@ -1,34 +1,31 @@
 -- Each answer keeps the account of ExactAccount. A duty that is opened costs a question, and one that is settled raises its state by one level and
 -- was not settled before at this N. Where step 2 finds nothing, what was missing has been stored. Steps 4 and 5 are in ExactRound. Assumes
 -- nothing.
-use Prim.Native.Nat.{ℕ, zero, suc, _≤_}
+use Prim.Native.Nat.{ℕ, zero, suc, _+_, _≤_, _<_}
 use mathlib.Core.Bool.{true, false}
 use mathlib.Core.List.{List, [], _∷_}
 use mathlib.Core.Option.{Option, none, some}
 use mathlib.Core.Path.{_≡_, refl, sym, ap, _∙_}
 use native.Mathlib.Omega.{arith}
-use borrow.Author.Tests.{eqb-true, eqb-false, le-leb}
-use lib.Dec.{eqb, leb}
+use borrow.Author.Tests.{eqb-true, eqb-false}
+use lib.Dec.{eqb}
 use lib.ListN.{length}
 use Rattle.ic3.specs.Answers.{Answers}
-use Rattle.base.proofs.Tests.{test}
+use Rattle.base.proofs.Tests.{test, clash}
 use Rattle.ic3.specs.Model.{Model}
-use Rattle.ic3.specs.Search.{Entry, levelOf, put, states, Phase, look, settle, raise, wanted, go, judge, round, settled, found, deeper, kept, react}
-use Rattle.ic3.specs.Shape.{Tidy}
+use Rattle.ic3.specs.Search.{Entry, levelOf, put, Phase, look, settle, raise, wanted, go, judge, Rounds, round, settled, found, deeper, kept, react}
 use Rattle.ic3.specs.Demands.{listed, Doomed, Number}
-use Rattle.ic3.proofs.Store.{put-more, level-put, level-put-other, put-tidy, Stored, stored-put, put-new, total, put-total, listed-none, listed-other, states-listed, states-all, inside-length}
+use Rattle.ic3.specs.Exact.{upTo}
+use Rattle.ic3.proofs.Store.{put-more, put-old, level-put, level-put-other, put-tidy, stored-put, put-new, total, put-total, listed-none, listed-head, listed-tail, listed-other, states-all}
 use Rattle.ic3.proofs.Frames.{leads-level}
 use Rattle.ic3.proofs.Round.{round-lands, kept-lands}
-use Rattle.ic3.proofs.Sound.{Kept, Duty, Stands, grown, duty-doomed}
-use Rattle.ic3.proofs.Number.{number-stored}
+use Rattle.ic3.proofs.Sound.{Kept, Duty, Stands, grown, raised-kept, duty-doomed}
 use Rattle.ic3.proofs.ExactSums.{round-sum}
-use Rattle.ic3.proofs.ExactAccount.{Sown, Done, missing-still, Fresh, first, grew, lacks, Opened, C}
+use Rattle.ic3.proofs.ExactAccount.{Sown, Done, missing-still, Fresh, first, grew, lacks, SettledAt, Opened, C}
+use Rattle.ic3.proofs.ExactCounts.{stored-few, done-few}
 use Rattle.ic3.proofs.ExactRound.{Held, round-exact, tested-exact, some-testing, none-testing}
 
 module _ (M : Model) (m : ℕ) (D : Number (Doomed M) m) where
-  pub stored-few : (N : ℕ) (st : List Entry) → Tidy st → Stored (Sown M N) st → length st ≤ m
-  stored-few N st w h = number-stored {P = Doomed M} m D st w (λ s g. h s g .doomed)
-
   one-duty-more : (n : ℕ) (st : List Entry) (duties q : ℕ) → Opened M n st duties q → Opened M n st (suc duties) (suc q)
   one-duty-more n st duties q c =
       record {
@@ -41,6 +38,8 @@ module _ (M : Model) (m : ℕ) (D : Number (Doomed M) m) where
         ahead = c .ahead;
         fresh = c .fresh;
         few = omega (arith, c .few);
+        low = c .low;
+        climbed = λ h l a b. c .climbed h l a (omega arith);
       }
 
   found-exact : (room N : ℕ) (st : List Entry) (s q : ℕ) → C M N st look q → Held M m room (suc q) (found N st s)
@@ -96,6 +95,24 @@ module _ (M : Model) (m : ℕ) (D : Number (Doomed M) m) where
           let o : levelOf (put st s (suc k)) d ≡ levelOf st d = level-put-other st s (suc k) d (eqb-false d s e) in
           record { stored = omega (arith, p .stored); ahead = λ xs v. omega (arith, p .ahead xs v) })
 
+      -- a further state is stored at level 1 only, below open duties for all levels above
+      duty-climbed : c .before < length (put st s (suc k)) → (l : ℕ) → 1 ≤ l → l + length ds ≤ suc n
+          → SettledAt M (put st s (suc k)) (s ∷ c .done) l
+      duty-climbed h l a b =
+          test (eqb l (suc k))
+          (λ e. record {
+            state = s;
+            here = level-put st s (suc k) ∙ sym (eqb-true l (suc k) e);
+            settled = listed-head (c .done) s;
+          })
+          (λ e. let x = c .climbed (omega (arith, put-old st s (suc k) (omega (arith, duty-level, w .count, eqb-false l (suc k) e)))) l a
+          (omega (arith, w .count, eqb-false l (suc k) e)) in
+          record {
+            state = x .state;
+            here = level-put-other st s (suc k) (x .state) (λ z. clash (x .settled) (rw z duty-new)) ∙ x .here;
+            settled = listed-tail (c .done) s (x .state) (x .settled);
+          })
+
       duty-opened : Opened M n (put st s (suc k)) (length ds) (suc q)
       duty-opened =
           record {
@@ -108,6 +125,8 @@ module _ (M : Model) (m : ℕ) (D : Number (Doomed M) m) where
             ahead = duty-done;
             fresh = duty-fresh (c .fresh);
             few = omega (arith, c .few, put-total st s (suc k), duty-level);
+            low = omega (arith, c .low, put-total st s (suc k), duty-level);
+            climbed = duty-climbed;
           }
 
       kept-exact : (room : ℕ) → Held M m room (suc q) (kept room (suc n) (put st s (suc k)) k ds)
@@ -117,7 +136,7 @@ module _ (M : Model) (m : ℕ) (D : Number (Doomed M) m) where
           (λ h. rest ds duty-opened)
           (λ h r. omega (
             arith,
-            stored-few (suc n) (put st s (suc k)) (put-tidy st s (suc k) (omega arith) (K .tidy)) (duty-opened .sown),
+            stored-few M m D (suc n) (put st s (suc k)) (put-tidy st s (suc k) (omega arith) (K .tidy)) (duty-opened .sown),
           ))
         where
           rest : (xs : List ℕ) → Opened M n (put st s (suc k)) (length xs) (suc q)
@@ -125,12 +144,12 @@ module _ (M : Model) (m : ℕ) (D : Number (Doomed M) m) where
           rest [] p = p
           rest (x ∷ xs) p = p
 
-  -- step 2 finds nothing with N = n + 1: a further state has been stored
-  stored-more : (n : ℕ) (st : List Entry) (q : ℕ) → Kept M (suc (suc n)) st → (c : Opened M n st 0 q) → 1 ≤ n → suc (c .before) ≤ length st
+  -- step 2 finds nothing with N = n + 1, and in the first round something is stored: a further state has been
+  stored-more : (n : ℕ) (st : List Entry) (q : ℕ) → Kept M (suc (suc n)) st → (c : Opened M n st 0 q) → 1 ≤ n + length st → suc (c .before) ≤ length st
   stored-more n st q K c h = pick (c .fresh)
     where
       pick : Fresh M n (c .before) st → suc (c .before) ≤ length st
-      pick (first a b) = absurd (omega arith)
+      pick (first a b) = omega arith
       pick (grew a) = a
       pick (lacks x) =
           absurd (omega (
@@ -140,34 +159,26 @@ module _ (M : Model) (m : ℕ) (D : Number (Doomed M) m) where
             x .unstored,
           ))
 
-  pub done-few : (n : ℕ) (st : List Entry) (duties q : ℕ) → Tidy st → (c : Opened M n st duties q) → length (c .done) ≤ length st
-  done-few n st duties q w c =
-      omega (
-        arith,
-        states-all st w,
-        inside-length (c .done) (states (leb 1) st) (c .distinct)
-            (λ s a. states-listed (leb 1) refl st w s ∙ le-leb 1 (levelOf st s) (c .ahead s a .stored)),
-      )
-
-  none-exact : (room n : ℕ) (st : List Entry) (q : ℕ) → Kept M (suc (suc n)) st → Opened M n st 0 q
-      → Held M m room (suc q) (round (suc (suc n)) (suc n) 1 st)
-  none-exact room n st q K c =
-      round-lands (Held M m room (suc q)) (suc (suc n)) st (suc n) 1 (omega arith) (omega arith)
-      (round-exact M m room (suc n) st (K .tidy) (c .sown) (omega arith) (suc q) 1 (omega arith)
+  none-exact : (r : Rounds) (room n : ℕ) (st : List Entry) (q : ℕ) → Kept M (suc (suc n)) st → Opened M n st 0 q
+      → Held M m room (suc q) (round r (suc (suc n)) (suc n) 1 st)
+  none-exact r room n st q K c =
+      round-lands (Held M m room (suc q)) (suc (suc n)) st r (suc n) 1 (omega arith) (omega arith)
+      (round-exact M m room (suc n) st K (c .sown) (omega arith) (suc q) 1 (omega arith)
       (test (eqb n 0)
       (λ j. omega (arith, eqb-true n 0 j))
       (λ j. omega (arith, c .fewer, stored-more n st q K c (omega (arith, eqb-false n 0 j)))))
       (λ s f l. absurd (omega arith))
+      (λ h l a b. let x = c .climbed (stored-more n st q K c (omega arith)) l a (omega arith) in (x .state, x .here))
       (omega (
         arith,
         states-all st (K .tidy),
-        round-sum n (c .before) (length st) (total st) (length (c .done)) q (stored-more n st q K c) (done-few n st 0 q (K .tidy) c) (c .few),
+        round-sum n (c .before) (length st) (total st) (length (c .done)) q (λ h. stored-more n st q K c (omega arith)) (done-few M m D n st 0 q (K .tidy) c) (c .few),
       )))
 
   -- step 1 found nothing
-  begun : (room : ℕ) → Held M m room 2 (round 1 0 1 [])
-  unfolding round judge levelOf total
-  begun room =
+  begun : (r : Rounds) (room : ℕ) → Held M m room 2 (round r 1 0 1 [])
+  unfolding round judge levelOf total upTo
+  begun r room =
       record {
         sown = λ s h. absurd (omega arith);
         before = 0;
@@ -178,22 +189,24 @@ module _ (M : Model) (m : ℕ) (D : Number (Doomed M) m) where
         ahead = λ s n. listed-none s n;
         fresh = first refl refl;
         few = omega arith;
+        low = omega arith;
+        climbed = λ h. absurd (omega arith);
       }
 
-  pub react-exact : (room N : ℕ) (st : List Entry) (ph : Phase) (o : Option ℕ) (q : ℕ) → Kept M N st → Stands M N st ph
-      → Answers (M .size) (wanted M N st ph) o → C M N st ph q → Held M m room (suc q) (react room N st ph o)
+  pub react-exact : (r : Rounds) (room N : ℕ) (st : List Entry) (ph : Phase) (o : Option ℕ) (q : ℕ) → Kept M N st → Stands M N st ph
+      → Answers (M .size) (wanted M N st ph) o → C M N st ph q → Held M m room (suc q) (react r room N st ph o)
   unfolding react wanted
-  react-exact room N st look (some s) q K w a c = found-exact room N st s q c
-  react-exact room zero st look none q K w a c = rw (c .0, c .1) (begun room)
-  react-exact room (suc n) st look none q K w a c = none-exact room n st q (grown M (suc n) st K a) c
-  react-exact room N st (settle k s ds) (some t) q K w a c = deeper-exact room N st k s ds t q c
-  react-exact room zero st (settle k s ds) none q K w a c = absurd c
-  react-exact room (suc n) st (settle k s ds) none q K w a c = kept-exact n st K k s ds w q c room
-  react-exact room zero st (raise i s todo) (some t) q K w a c = absurd c
-  react-exact room (suc N) st (raise i s todo) (some t) q K w a c =
-      tested-exact M m room N st (K .tidy) (c .sown) (c .once) (suc q) i todo (w .above) (w .below) (some-testing M m N st i s todo w q c t a)
-  react-exact room zero st (raise i s todo) none q K w a c = absurd c
-  react-exact room (suc N) st (raise i s todo) none q K w a c =
+  react-exact r room N st look (some s) q K w a c = found-exact room N st s q c
+  react-exact r room zero st look none q K w a c = rw (c .0, c .1) (begun r room)
+  react-exact r room (suc n) st look none q K w a c = none-exact r room n st q (grown M (suc n) st K a) c
+  react-exact r room N st (settle k s ds) (some t) q K w a c = deeper-exact room N st k s ds t q c
+  react-exact r room zero st (settle k s ds) none q K w a c = absurd c
+  react-exact r room (suc n) st (settle k s ds) none q K w a c = kept-exact n st K k s ds w q c room
+  react-exact r room zero st (raise i s todo) (some t) q K w a c = absurd c
+  react-exact r room (suc N) st (raise i s todo) (some t) q K w a c =
+      tested-exact M m room N st K (c .sown) (c .once) (suc q) r i todo (w .above) (w .below) (some-testing M m N st i s todo w q c t a)
+  react-exact r room zero st (raise i s todo) none q K w a c = absurd c
+  react-exact r room (suc N) st (raise i s todo) none q K w a c =
       let p = none-testing M m N st i s todo w q c in
-      tested-exact M m room N (put st s (suc i)) (put-tidy st s (suc i) (omega arith) (K .tidy)) (p .sown) (c .once) (suc q) i todo
+      tested-exact M m room N (put st s (suc i)) (raised-kept M (suc N) st K i s w a) (p .sown) (c .once) (suc q) r i todo
       (w .above) (w .below) p

@@ -8,10 +8,14 @@ pub mod Shape
 pub mod Sound
 pub mod Start
 pub mod Number
+pub mod Shortened
 pub mod Cost
 pub mod ExactSums
+pub mod ExactLayers
 pub mod ExactAccount
+pub mod ExactCounts
 pub mod ExactRound
+pub mod ExactTested
 pub mod ExactKept
 pub mod Exact
 pub mod Bound

@@ -31,15 +31,18 @@ number-unique m n A B =
       inside-length (B .those) (A .those) (B .distinct) (λ s h. A .exact s .1 (B .exact s .0 h)),
     )
 
+-- a list of states with the property, none twice, is no longer than m
+pub number-listed : {P : ℕ → Type 0} (m : ℕ) → Number P m → (l : List ℕ) → Distinct l → ((s : ℕ) → listed l s ≡ true → P s) → length l ≤ m
+number-listed m A l d h = omega (arith, A .many, inside-length l (A .those) d (λ s n. A .exact s .1 (h s n)))
+
 -- no more than m states with the property are stored
 pub number-stored : {P : ℕ → Type 0} (m : ℕ) → Number P m → (st : List Entry) → Tidy st → Stored P st → length st ≤ m
 number-stored m A st w h =
     omega (
       arith,
-      A .many,
       states-all st w,
-      inside-length (states (leb 1) st) (A .those) (states-distinct (leb 1) refl st w)
-          (λ s n. A .exact s .1 (h s (leb-true 1 _ (sym (states-listed (leb 1) refl st w s) ∙ n)))),
+      number-listed m A (states (leb 1) st) (states-distinct (leb 1) refl st w)
+          (λ s n. h s (leb-true 1 _ (sym (states-listed (leb 1) refl st w s) ∙ n))),
     )
 
 -- the numbers below k

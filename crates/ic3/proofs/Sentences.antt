@@ -7,7 +7,7 @@ use native.Mathlib.Omega.{arith}
 use lib.ListN.{length}
 use Rattle.base.proofs.Tests.{clash}
 use Rattle.ic3.specs.Model.{Model, least}
-use Rattle.ic3.specs.Search.{Entry, look, settle, Config, at, spent, noStart, gaveUp, Move, go, stop, next, Ending, searchFrom, begun, searched}
+use Rattle.ic3.specs.Search.{Entry, look, settle, Config, at, spent, noStart, gaveUp, Move, go, stop, Rounds, next, Ending, searchFrom, begun, searched}
 use Rattle.ic3.specs.Shape.{Placed}
 use Rattle.ic3.specs.Demands.{Reach, starts, steps, NoStart}
 use Rattle.ic3.proofs.Least.{least-is}
@@ -18,38 +18,38 @@ module _ (M : Model) (no-start : NoStart M) where
   nothing-reachable (starts {s = s} h e) = clash e (no-start s h)
   nothing-reachable (steps r h e) = nothing-reachable r
 
-  pub ends-at-once : (room left : ℕ) → searched M room (suc left) ≡ record { verdict = gaveUp noStart; questions = 1 }
+  pub ends-at-once : (r : Rounds) (room left : ℕ) → searched r M room (suc left) ≡ record { verdict = gaveUp noStart; questions = 1 }
   unfolding searched begun
-  ends-at-once room left = rw (least-is (M .size) (M .start) none no-start)
+  ends-at-once r room left = rw (least-is (M .size) (M .start) none no-start)
 
 -- The path is t, then the states of the open duties from level 1 up to N, so N + 1 states.
 pub path-states : (N : ℕ) (st : List Entry) (s : ℕ) (ds : List ℕ) (t : ℕ) → Placed N st (settle 0 s ds) → length (t ∷ (s ∷ ds)) ≡ suc N
 path-states N st s ds t w = omega (arith, w)
 
 -- Before each ask, if the allowance is used up, the call ends: no search asks more questions than it has leave for.
-module _ (M : Model) (room : ℕ) where
-  from-within : (left : ℕ) (c : Config) (q : ℕ) → searchFrom left M room c q .questions ≤ left + q
+module _ (r : Rounds) (M : Model) (room : ℕ) where
+  from-within : (left : ℕ) (c : Config) (q : ℕ) → searchFrom r left M room c q .questions ≤ left + q
   unfolding searchFrom
   from-within zero c q = omega arith
-  from-within (suc left) c q = pick (next M room c) (λ d. from-within left d (suc q))
+  from-within (suc left) c q = pick (next r M room c) (λ d. from-within left d (suc q))
     where
-      pick : (m : Move) → ((d : Config) → searchFrom left M room d (suc q) .questions ≤ left + suc q)
-          → (elim m as (λ x. Ending) [ go d ↦ searchFrom left M room d (suc q) | stop v ↦ record { verdict = v; questions = suc q } ]) .questions
+      pick : (m : Move) → ((d : Config) → searchFrom r left M room d (suc q) .questions ≤ left + suc q)
+          → (elim m as (λ x. Ending) [ go d ↦ searchFrom r left M room d (suc q) | stop v ↦ record { verdict = v; questions = suc q } ]) .questions
           ≤ suc left + q
-      pick (go d) r = omega (arith, r d)
-      pick (stop v) r = omega arith
+      pick (go d) f = omega (arith, f d)
+      pick (stop v) f = omega arith
 
   -- without leave nothing is asked
-  pub ends-unasked : searched M room 0 ≡ record { verdict = gaveUp spent; questions = 0 }
+  pub ends-unasked : searched r M room 0 ≡ record { verdict = gaveUp spent; questions = 0 }
   unfolding searched
   ends-unasked = refl
 
-  begun-within : (left : ℕ) (o : Option ℕ) → begun left M room o .questions ≤ suc left
+  begun-within : (left : ℕ) (o : Option ℕ) → begun r left M room o .questions ≤ suc left
   unfolding begun
   begun-within left none = omega arith
   begun-within left (some s) = omega (arith, from-within left (at 0 [] look) 1)
 
-  pub searched-within : (allowance : ℕ) → searched M room allowance .questions ≤ allowance
+  pub searched-within : (allowance : ℕ) → searched r M room allowance .questions ≤ allowance
   unfolding searched
   searched-within zero = omega arith
   searched-within (suc left) = begun-within left (least (M .size) (M .start))

@@ -10,7 +10,7 @@ use native.Mathlib.Omega.{arith}
 use lib.Dec.{leb}
 use lib.ListN.{length}
 use Rattle.ic3.specs.Model.{Model, least}
-use Rattle.ic3.specs.Search.{Entry, put, Phase, look, settle, raise, Config, at, wanted, Move, go, stop, settled, tested, found, deeper, kept, react, next, searchFrom, begun, searched}
+use Rattle.ic3.specs.Search.{Entry, put, Phase, look, settle, raise, Config, at, wanted, Move, go, stop, Rounds, settled, tested, found, deeper, kept, react, next, searchFrom, begun, searched}
 use Rattle.ic3.specs.Shape.{Tidy, Shape, FitsEnding, Shaped}
 use Rattle.ic3.proofs.Store.{put-tidy, put-old, states-length}
 use Rattle.ic3.proofs.Round.{Lands, round-lands, tested-lands, kept-lands, level-head, taken-length}
@@ -29,13 +29,13 @@ module _ (room : ℕ) where
                 low = l;
                 placed = record { above = omega arith; below = b; here = level-head st w j (omega arith) s todo q };
               };
-          gap = λ j a b q. omega (arith, states-length (leb j) st);
+          gap = λ j a b t q. omega (arith, states-length (leb j) st);
           again = λ e t. record { tidy = w; stored = h; low = omega (arith, taken-length st N t); placed = tt };
         }
 
-    tested-shaped : (i : ℕ) (todo : List ℕ) → 1 ≤ i → i < N → Shaped room (tested N st i todo)
-    tested-shaped i todo o b =
-        tested-lands (Shaped room) N st i todo b
+    tested-shaped : (r : Rounds) (i : ℕ) (todo : List ℕ) → 1 ≤ i → i < N → Shaped room (tested r N st i todo)
+    tested-shaped r i todo o b =
+        tested-lands (Shaped room) N st r i todo o b
         (record {
           same-level = λ s rest e g k. record { tidy = w; stored = h; low = l; placed = record { above = o; below = b; here = e } };
           next-levels = λ k. round-shaped (suc i) (omega arith);
@@ -63,46 +63,46 @@ module _ (room : ℕ) where
 
   -- ---- one question
   -- whatever the answer is
-  react-keeps-shape : (N : ℕ) (st : List Entry) (ph : Phase) (o : Option ℕ) → Shape room (at N st ph) → Shaped room (react room N st ph o)
+  react-keeps-shape : (r : Rounds) (N : ℕ) (st : List Entry) (ph : Phase) (o : Option ℕ) → Shape room (at N st ph) → Shaped room (react r room N st ph o)
   unfolding react
-  react-keeps-shape N st look (some s) w = found-shaped N st s w
-  react-keeps-shape N st look none w =
-      round-lands (Shaped room) (suc N) st N 1 (omega arith) (omega arith)
+  react-keeps-shape r N st look (some s) w = found-shaped N st s w
+  react-keeps-shape r N st look none w =
+      round-lands (Shaped room) (suc N) st r N 1 (omega arith) (omega arith)
       (round-shaped (suc N) st (w .tidy) (w .stored) (omega (arith, w .low)) 1 (omega arith))
-  react-keeps-shape N st (settle k s ds) (some t) w = deeper-shaped N st k s ds t w
-  react-keeps-shape N st (settle k s ds) none w =
+  react-keeps-shape r N st (settle k s ds) (some t) w = deeper-shaped N st k s ds t w
+  react-keeps-shape r N st (settle k s ds) none w =
       kept-shaped N (put st s (suc k)) k ds (put-tidy st s (suc k) (omega arith) (w .tidy)) (w .low) (w .placed)
-  react-keeps-shape N st (raise i s todo) (some t) w =
+  react-keeps-shape r N st (raise i s todo) (some t) w =
       let p = w .placed in
-      tested-shaped N st (w .tidy) (w .stored) (w .low) i todo (p .above) (p .below)
-  react-keeps-shape N st (raise i s todo) none w =
+      tested-shaped N st (w .tidy) (w .stored) (w .low) r i todo (p .above) (p .below)
+  react-keeps-shape r N st (raise i s todo) none w =
       let p = w .placed in
       let same : length (put st s (suc i)) ≡ length st = put-old st s (suc i) (omega (arith, p .above, p .here)) in
-      tested-shaped N (put st s (suc i)) (put-tidy st s (suc i) (omega arith) (w .tidy)) (rw same (w .stored)) (w .low) i todo (p .above) (p .below)
+      tested-shaped N (put st s (suc i)) (put-tidy st s (suc i) (omega arith) (w .tidy)) (rw same (w .stored)) (w .low) r i todo (p .above) (p .below)
 
-  pub next-keeps-shape : (M : Model) (c : Config) → Shape room c → Shaped room (next M room c)
+  pub next-keeps-shape : (r : Rounds) (M : Model) (c : Config) → Shape room c → Shaped room (next r M room c)
   unfolding next
-  next-keeps-shape M c w =
-      react-keeps-shape (c .N) (c .store) (c .phase) (least (M .size) (wanted M (c .N) (c .store) (c .phase))) w
+  next-keeps-shape r M c w =
+      react-keeps-shape r (c .N) (c .store) (c .phase) (least (M .size) (wanted M (c .N) (c .store) (c .phase))) w
 
   -- ---- a run
   pub opening-shape : Shape room (at 0 [] look)
   opening-shape = record { tidy = tt; stored = omega arith; low = omega arith; placed = tt }
 
-  turned : (M : Model) (allowance p : ℕ) (m : Move) → Shaped room m → Turned M room allowance (λ d p. Shape room d) (λ v p. FitsEnding room v) p m
-  turned M allowance p (go d) x = x
-  turned M allowance p (stop v) x = x
+  turned : (r : Rounds) (M : Model) (allowance p : ℕ) (m : Move) → Shaped room m → Turned r M room allowance (λ d p. Shape room d) (λ v p. FitsEnding room v) p m
+  turned r M allowance p (go d) x = x
+  turned r M allowance p (stop v) x = x
 
   -- a run from any configuration that has the shape, in any model
-  pub from-fits : (M : Model) (left : ℕ) (c : Config) (q : ℕ) → Shape room c → FitsEnding room (searchFrom left M room c q .verdict)
-  from-fits M left c q w =
-      from-keeps M room (left + q) (λ d p. Shape room d) (λ v p. FitsEnding room v)
-      (λ d p x. turned M (left + q) (suc p) (next M room d) (next-keeps-shape M d x)) (λ d x. tt) left c q refl w
+  pub from-fits : (r : Rounds) (M : Model) (left : ℕ) (c : Config) (q : ℕ) → Shape room c → FitsEnding room (searchFrom r left M room c q .verdict)
+  from-fits r M left c q w =
+      from-keeps r M room (left + q) (λ d p. Shape room d) (λ v p. FitsEnding room v)
+      (λ d p x. turned r M (left + q) (suc p) (next r M room d) (next-keeps-shape r M d x)) (λ d x. tt) left c q refl w
 
 -- the whole search
-pub ending-fits : (M : Model) (room allowance : ℕ) → FitsEnding room (searched M room allowance .verdict)
+pub ending-fits : (r : Rounds) (M : Model) (room allowance : ℕ) → FitsEnding room (searched r M room allowance .verdict)
 unfolding begun searched
-ending-fits M room allowance =
-    searched-keeps M room allowance (λ d p. Shape room d) (λ v p. FitsEnding room v)
-    (λ d p x. turned room M allowance (suc p) (next M room d) (next-keeps-shape room M d x)) (λ d x. tt) (λ e. tt) (λ l n. tt)
+ending-fits r M room allowance =
+    searched-keeps r M room allowance (λ d p. Shape room d) (λ v p. FitsEnding room v)
+    (λ d p x. turned room r M allowance (suc p) (next r M room d) (next-keeps-shape room r M d x)) (λ d x. tt) (λ e. tt) (λ l n. tt)
     (λ h. opening-shape room)

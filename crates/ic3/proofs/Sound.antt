@@ -13,7 +13,7 @@ use Rattle.ic3.specs.Theorems.{Demand-2}
 use Rattle.ic3.specs.Answers.{Least, Answers}
 use Rattle.base.proofs.Tests.{test, clash, both, first-false}
 use Rattle.ic3.specs.Model.{Model, least}
-use Rattle.ic3.specs.Search.{Entry, levelOf, put, states, R, Phase, look, settle, raise, Config, at, wanted, spent, Verdict, gaveUp, Move, go, stop, settled, tested, found, deeper, react, next, Ending, begun, searched}
+use Rattle.ic3.specs.Search.{Entry, levelOf, put, states, R, Phase, look, settle, raise, Config, at, wanted, spent, Verdict, gaveUp, Move, go, stop, Rounds, settled, tested, found, deeper, react, next, Ending, begun, searched}
 use Rattle.ic3.specs.Shape.{Tidy, Sits, Placed}
 use Rattle.ic3.specs.Demands.{Leads, listed, Safe, HasStart, NoStart, Doomed}
 use Rattle.ic3.proofs.Least.{least-answers}
@@ -99,7 +99,7 @@ module _ (M : Model) where
         (duty-doomed k s ds w .no-start) free
 
     -- a stored state that nothing of R(i) steps to
-    raised-kept : (i s : ℕ) → Sits N st i s
+    pub raised-kept : (i s : ℕ) → Sits N st i s
         → ((t : ℕ) → t < M .size → (R M (levelOf st) i t && M .step t s) ≡ false) → Kept N (put st s (suc i))
     raised-kept i s w free =
         let b : s < M .size = K .states s (omega (arith, w .above, w .here)) in
@@ -123,13 +123,13 @@ module _ (M : Model) where
         record {
           next-level = λ j s todo a b e q.
               (K, record { above = omega arith; below = b; here = level-head st (K .tidy) j (omega arith) s todo q });
-          gap = gap-safe;
+          gap = λ j a b t q. gap-safe j a b q;
           again = λ e t. (K, tt);
         }
 
-    tested-fine : (i : ℕ) (todo : List ℕ) → 1 ≤ i → i < N → Fine (tested N st i todo)
-    tested-fine i todo h l =
-        tested-lands Fine N st i todo l
+    tested-fine : (r : Rounds) (i : ℕ) (todo : List ℕ) → 1 ≤ i → i < N → Fine (tested r N st i todo)
+    tested-fine r i todo h l =
+        tested-lands Fine N st r i todo h l
         (record {
           same-level = λ s rest e g k. (K, record { above = h; below = l; here = e });
           next-levels = λ k. round-fine (suc i) (omega arith);
@@ -192,31 +192,31 @@ module _ (M : Model) where
     },
   )
 
-  react-fine : (room N : ℕ) (st : List Entry) (ph : Phase) (o : Option ℕ) → Kept N st → Stands N st ph
-      → Answers (M .size) (wanted M N st ph) o → Fine (react room N st ph o)
+  react-fine : (r : Rounds) (room N : ℕ) (st : List Entry) (ph : Phase) (o : Option ℕ) → Kept N st → Stands N st ph
+      → Answers (M .size) (wanted M N st ph) o → Fine (react r room N st ph o)
   unfolding react wanted
-  react-fine room N st look (some s) K w a = found-fine N st K s a
-  react-fine room N st look none K w a =
-      round-lands Fine (suc N) st N 1 (omega arith) (omega arith) (round-fine (suc N) st (grown N st K a) 1 (omega arith))
-  react-fine room N st (settle k s ds) (some t) K w a = deeper-fine N st K k s ds t w a
-  react-fine room N st (settle k s ds) none K w a =
+  react-fine r room N st look (some s) K w a = found-fine N st K s a
+  react-fine r room N st look none K w a =
+      round-lands Fine (suc N) st r N 1 (omega arith) (omega arith) (round-fine (suc N) st (grown N st K a) 1 (omega arith))
+  react-fine r room N st (settle k s ds) (some t) K w a = deeper-fine N st K k s ds t w a
+  react-fine r room N st (settle k s ds) none K w a =
       kept-lands Fine room N (put st s (suc k)) k ds (λ h. settled-fine N st s k ds w (blocked-kept N st K k s ds w a)) (λ h. tt)
-  react-fine room N st (raise i s todo) (some t) K w a = tested-fine N st K i todo (w .above) (w .below)
-  react-fine room N st (raise i s todo) none K w a =
-      tested-fine N (put st s (suc i)) (raised-kept N st K i s w a) i todo (w .above) (w .below)
+  react-fine r room N st (raise i s todo) (some t) K w a = tested-fine N st K r i todo (w .above) (w .below)
+  react-fine r room N st (raise i s todo) none K w a =
+      tested-fine N (put st s (suc i)) (raised-kept N st K i s w a) r i todo (w .above) (w .below)
 
-  pub next-fine : (room : ℕ) (c : Config) → Fine (go c) → Fine (next M room c)
+  pub next-fine : (r : Rounds) (room : ℕ) (c : Config) → Fine (go c) → Fine (next r M room c)
   unfolding next
-  next-fine room c f =
+  next-fine r room c f =
       let p = wanted M (c .N) (c .store) (c .phase) in
-      react-fine room (c .N) (c .store) (c .phase) (least (M .size) p) (f .0) (f .1) (least-answers (M .size) p)
+      react-fine r room (c .N) (c .store) (c .phase) (least (M .size) p) (f .0) (f .1) (least-answers (M .size) p)
 
   pub opening-fine : Fine (go (at 0 [] look))
   unfolding levelOf
   opening-fine = (record { tidy = tt; states = λ s h. absurd (omega arith); frames = frames-none M }, tt)
 
   -- What is kept on top of that: C of a configuration that q questions led to, and Q of an ending.
-  module _ (room allowance : ℕ) (C : ℕ → List Entry → Phase → ℕ → Type 0) (Q : Verdict → ℕ → Type 0) where
+  module _ (r : Rounds) (room allowance : ℕ) (C : ℕ → List Entry → Phase → ℕ → Type 0) (Q : Verdict → ℕ → Type 0) where
     abbrev pub Then : ℕ → Move → Type 0
     Then q (go c) = C (c .N) (c .store) (c .phase) q
     Then q (stop v) = Q v q
@@ -227,20 +227,20 @@ module _ (M : Model) where
     abbrev Both : Config → ℕ → Type 0
     Both c q = Fine (go c) × C (c .N) (c .store) (c .phase) q
 
-    together : (q : ℕ) (m : Move) → Fine m → Then q m → Turned M room allowance Both Q q m
+    together : (q : ℕ) (m : Move) → Fine m → Then q m → Turned r M room allowance Both Q q m
     together q (go c) f t = (f, t)
     together q (stop v) f t = t
 
     pub search-keeps : ((N : ℕ) (st : List Entry) (ph : Phase) (o : Option ℕ) (q : ℕ) → Kept N st → Stands N st ph
-        → Answers (M .size) (wanted M N st ph) o → C N st ph q → Then (suc q) (react room N st ph o))
+        → Answers (M .size) (wanted M N st ph) o → C N st ph q → Then (suc q) (react r room N st ph o))
         → ((N : ℕ) (st : List Entry) (ph : Phase) → Kept N st → Stands N st ph → C N st ph allowance → Q (gaveUp spent) allowance)
-        → (allowance ≡ 0 → Ended (searched M room 0)) → (1 ≤ allowance → NoStart M → Ended (begun (allowance - 1) M room none))
-        → (HasStart M → C 0 [] look 1) → Ended (searched M room allowance)
+        → (allowance ≡ 0 → Ended (searched r M room 0)) → (1 ≤ allowance → NoStart M → Ended (begun r (allowance - 1) M room none))
+        → (HasStart M → C 0 [] look 1) → Ended (searched r M room allowance)
     unfolding next
     search-keeps turn over forbidden nowhere begin =
-        searched-keeps M room allowance Both Q
+        searched-keeps r M room allowance Both Q
         (λ c q p. let w = wanted M (c .N) (c .store) (c .phase) in
-        together (suc q) (next M room c) (next-fine room c (p .0))
+        together (suc q) (next r M room c) (next-fine r room c (p .0))
         (turn (c .N) (c .store) (c .phase) (least (M .size) w) q (p .0 .0) (p .0 .1) (least-answers (M .size) w) (p .1)))
         (λ c p. over (c .N) (c .store) (c .phase) (p .0 .0) (p .0 .1) (p .1))
         forbidden
@@ -248,16 +248,16 @@ module _ (M : Model) where
         (λ h. (opening-fine, begin h))
 
   -- demand 2, for every room and allowance
-  pub demand-2 : (room allowance : ℕ) → Demand-2 M (searched M room allowance .verdict)
+  pub demand-2 : (r : Rounds) (room allowance : ℕ) → Demand-2 M (searched r M room allowance .verdict)
   unfolding begun searched
-  demand-2 room allowance =
-      searched-keeps M room allowance (λ c q. Fine (go c)) (λ v q. Demand-2 M v)
-      (λ c q f. turned (suc q) (next M room c) (next-fine room c f))
+  demand-2 r room allowance =
+      searched-keeps r M room allowance (λ c q. Fine (go c)) (λ v q. Demand-2 M v)
+      (λ c q f. turned (suc q) (next r M room c) (next-fine r room c f))
       (λ c f. tt)
       (λ e. tt)
       (λ l n. tt)
       (λ h. opening-fine)
     where
-      turned : (q : ℕ) (m : Move) → Fine m → Turned M room allowance (λ c q. Fine (go c)) (λ v q. Demand-2 M v) q m
+      turned : (q : ℕ) (m : Move) → Fine m → Turned r M room allowance (λ c q. Fine (go c)) (λ v q. Demand-2 M v) q m
       turned q (go c) f = f
       turned q (stop v) f = f

@@ -162,6 +162,20 @@ states-distinct p z (x ∷ es) w =
     (λ e. rw (e, states) (states-listed p z es (w .2) (x .state) ∙ ap p (w .1) ∙ z, states-distinct p z es (w .2)))
     (λ e. rw (e, states) (states-distinct p z es (w .2)))
 
+-- a raise that a test does not see leaves the states that pass it
+pub states-put : (p : ℕ → Bool) (st : List Entry) (s k : ℕ) → 1 ≤ levelOf st s → p (levelOf st s) ≡ p k → states p (put st s k) ≡ states p st
+unfolding states put levelOf
+states-put p [] s k h e = absurd (omega arith)
+states-put p (x ∷ es) s k h e =
+    test (eqb (x .state) s)
+    (λ q. let g : p (x .level) ≡ p k = rw (q, levelOf) at e in
+    rw (q, put)
+    (test (p k)
+    (λ j. rw (j, states) (rw (g ∙ j, states) (rw (eqb-true (x .state) s q))))
+    (λ j. rw (j, states) (rw (g ∙ j, states)))))
+    (λ q. let r = states-put p es s k (rw (q, levelOf) at h) (rw (q, levelOf) at e) in
+    rw (q, put) (test (p (x .level)) (λ j. rw (j, states) (ap (λ l. x .state ∷ l) r)) (λ j. rw (j, states) r)))
+
 -- the states from a level on are those of the level and those above it
 pub states-split : (i : ℕ) (st : List Entry)
     → length (states (leb i) st) ≡ length (states (eqb i) st) + length (states (leb (suc i)) st)

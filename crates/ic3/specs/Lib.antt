@@ -1,4 +1,4 @@
--- The root of the definitions, in the order in which to read them. No definition leans on the last three.
+-- The root of the definitions, in the order in which to read them. No definition leans on the last four.
 pub mod Model
 pub mod Search
 pub mod Demands
@@ -7,3 +7,4 @@ pub mod Answers
 pub mod Shape
 pub mod Canonical
 pub mod Exact
+pub mod Shortened

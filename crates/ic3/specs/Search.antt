@@ -80,15 +80,31 @@ unfoldable pub judge : ℕ → ℕ → ℕ → List Entry → Move
 judge N zero i st = go (at N st look)
 judge N (suc left) i st = elim (states (eqb i) st) [ [] ↦ stop (safe (states (leb i) st)) | s ∷ more ↦ judge N left (suc i) st ]
 
--- Step 4, from level i on, with `left` levels below N to go through: every stored state whose level is exactly i, in stored order.
-unfoldable pub round : ℕ → ℕ → ℕ → List Entry → Move
-round N zero i st = judge N (N - 1) 1 st
-round N (suc left) i st = elim (states (eqb i) st) [ [] ↦ round N left (suc i) st | s ∷ todo ↦ go (at N st (raise i s todo)) ]
+-- Step 4 goes through all levels below N, or only as far as each still has a state once its states are tested.
+pub data Rounds : Type 0 where
+  full : Rounds
+  shortened : Rounds
+
+-- whether a round goes on past a level: all its states are tested, and `here` sit there still
+unfoldable pub goesOn : Rounds → List ℕ → Bool
+goesOn full here = true
+goesOn shortened [] = false
+goesOn shortened (s ∷ here) = true
+
+-- Step 4, from level i on, with `left` levels below N to go through: every stored state whose level is exactly i, in stored order. Where the
+-- round does not go on, step 5 decides.
+unfoldable pub round : Rounds → ℕ → ℕ → ℕ → List Entry → Move
+round r N zero i st = judge N (N - 1) 1 st
+round r N (suc left) i st =
+    elim (states (eqb i) st) [
+      | [] ↦ elim (goesOn r []) [ true ↦ round r N left (suc i) st | false ↦ judge N (N - 1) 1 st ]
+      | s ∷ todo ↦ go (at N st (raise i s todo))
+    ]
 
 -- step 4 at level i: the next of todo that sits at level i, which all of them do while a test takes out no other entry; then the next level
-unfoldable pub tested : ℕ → List Entry → ℕ → List ℕ → Move
-tested N st i [] = round N (N - suc i) (suc i) st
-tested N st i (s ∷ todo) = elim (eqb (levelOf st s) i) [ true ↦ go (at N st (raise i s todo)) | false ↦ tested N st i todo ]
+unfoldable pub tested : Rounds → ℕ → List Entry → ℕ → List ℕ → Move
+tested r N st i [] = elim (goesOn r (states (eqb i) st)) [ true ↦ round r N (N - suc i) (suc i) st | false ↦ judge N (N - 1) 1 st ]
+tested r N st i (s ∷ todo) = elim (eqb (levelOf st s) i) [ true ↦ go (at N st (raise i s todo)) | false ↦ tested r N st i todo ]
 
 -- a bad state s of R(N): in step 1 it is the path, in step 2 the duty (s, N) is to be settled
 unfoldable pub found : ℕ → List Entry → ℕ → Move
@@ -113,17 +129,17 @@ unfoldable pub kept : ℕ → ℕ → List Entry → ℕ → List ℕ → Move
 kept room N st k ds = elim (fits room st) [ true ↦ go (settled N st k ds) | false ↦ stop (gaveUp noRoom) ]
 
 -- The answer taken in. With no bad state N grows by 1 and step 4 begins; with none that steps to s, s gets its level.
-unfoldable pub react : ℕ → ℕ → List Entry → Phase → Option ℕ → Move
-react room N st look (some s) = found N st s
-react room N st look none = round (suc N) N 1 st
-react room N st (settle k s ds) (some t) = deeper N st k s ds t
-react room N st (settle k s ds) none = kept room N (put st s (suc k)) k ds
-react room N st (raise i s todo) (some t) = tested N st i todo
-react room N st (raise i s todo) none = tested N (put st s (suc i)) i todo
+unfoldable pub react : Rounds → ℕ → ℕ → List Entry → Phase → Option ℕ → Move
+react r room N st look (some s) = found N st s
+react r room N st look none = round r (suc N) N 1 st
+react r room N st (settle k s ds) (some t) = deeper N st k s ds t
+react r room N st (settle k s ds) none = kept room N (put st s (suc k)) k ds
+react r room N st (raise i s todo) (some t) = tested r N st i todo
+react r room N st (raise i s todo) none = tested r N (put st s (suc i)) i todo
 
 -- one question, asked and taken in
-unfoldable pub next : Model → ℕ → Config → Move
-next M room c = react room (c .N) (c .store) (c .phase) (least (M .size) (wanted M (c .N) (c .store) (c .phase)))
+unfoldable pub next : Rounds → Model → ℕ → Config → Move
+next r M room c = react r room (c .N) (c .store) (c .phase) (least (M .size) (wanted M (c .N) (c .store) (c .phase)))
 
 -- the number of questions asked stands in every ending
 pub record Ending : Type 0 where
@@ -131,17 +147,17 @@ pub record Ending : Type 0 where
   pub questions : ℕ
 
 -- The search from c, which `asked` questions led to. Before each ask, if the allowance, of which `left` is left, is used up, it ends.
-unfoldable pub searchFrom : ℕ → Model → ℕ → Config → ℕ → Ending
-searchFrom zero M room c asked = record { verdict = gaveUp spent; questions = asked }
-searchFrom (suc left) M room c asked =
-    elim (next M room c) [ go d ↦ searchFrom left M room d (suc asked) | stop v ↦ record { verdict = v; questions = suc asked } ]
+unfoldable pub searchFrom : Rounds → ℕ → Model → ℕ → Config → ℕ → Ending
+searchFrom r zero M room c asked = record { verdict = gaveUp spent; questions = asked }
+searchFrom r (suc left) M room c asked =
+    elim (next r M room c) [ go d ↦ searchFrom r left M room d (suc asked) | stop v ↦ record { verdict = v; questions = suc asked } ]
 
 -- The question for a start state, taken in: with none the search ends. Step 1 is step 2 with N = 0; step 4 has no level to go through after it.
-unfoldable pub begun : ℕ → Model → ℕ → Option ℕ → Ending
-begun left M room none = record { verdict = gaveUp noStart; questions = 1 }
-begun left M room (some s) = searchFrom left M room (at 0 [] look) 1
+unfoldable pub begun : Rounds → ℕ → Model → ℕ → Option ℕ → Ending
+begun r left M room none = record { verdict = gaveUp noStart; questions = 1 }
+begun r left M room (some s) = searchFrom r left M room (at 0 [] look) 1
 
 -- The whole search: before step 1 it asks for a start state.
-unfoldable pub searched : Model → ℕ → ℕ → Ending
-searched M room zero = record { verdict = gaveUp spent; questions = 0 }
-searched M room (suc left) = begun left M room (least (M .size) (M .start))
+unfoldable pub searched : Rounds → Model → ℕ → ℕ → Ending
+searched r M room zero = record { verdict = gaveUp spent; questions = 0 }
+searched r M room (suc left) = begun r left M room (least (M .size) (M .start))

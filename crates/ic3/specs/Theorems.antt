@@ -2,7 +2,7 @@
 use Prim.Native.Nat.{ℕ, _+_, _*_, _≤_}
 use mathlib.Core.Path.{_≡_}
 use Rattle.ic3.specs.Model.{Model}
-use Rattle.ic3.specs.Search.{noRoom, spent, noStart, Verdict, safe, unsafe, gaveUp, searched}
+use Rattle.ic3.specs.Search.{noRoom, spent, noStart, Verdict, safe, unsafe, gaveUp, Rounds, searched}
 use Rattle.ic3.specs.Demands.{Safe, Unsafe, HasStart, NoStart, Doomed, Number}
 
 -- demand 2, of a verdict
@@ -19,15 +19,15 @@ Answered (gaveUp why) = ⊥
 
 -- One search never asks more than `most` questions, and where there is a start state, with room for m states and leave to ask that many it never
 -- gives up.
-pub record Bounded (M : Model) (m most : ℕ) : Type 0 where
-  pub few : (room allowance : ℕ) → searched M room allowance .questions ≤ most
-  pub answers : HasStart M → (room allowance : ℕ) → m ≤ room → most ≤ allowance → Answered (searched M room allowance .verdict)
+pub record Bounded (r : Rounds) (M : Model) (m most : ℕ) : Type 0 where
+  pub few : (room allowance : ℕ) → searched r M room allowance .questions ≤ most
+  pub answers : HasStart M → (room allowance : ℕ) → m ≤ room → most ≤ allowance → Answered (searched r M room allowance .verdict)
 
 -- demand 3: there is exactly one such m, and it bounds the search
-pub record Demand-3 (M : Model) : Type 0 where
+pub record Demand-3 (r : Rounds) (M : Model) : Type 0 where
   pub exists : (m : ℕ) × Number (Doomed M) m
   pub unique : (m n : ℕ) → Number (Doomed M) m → Number (Doomed M) n → m ≡ n
-  pub bounded : (m : ℕ) → Number (Doomed M) m → Bounded M m (3 * ((m + 2) * (m + 2)))
+  pub bounded : (m : ℕ) → Number (Doomed M) m → Bounded r M m (3 * ((m + 2) * (m + 2)))
 
 -- what the first question shows, of a verdict: there is a start state, or there is none and it was asked
 abbrev pub Started : Model → ℕ → Verdict → Type 0

@@ -14,6 +14,7 @@ use Rattle.system.specs.System.{System, model}
 use Rattle.question.specs.Question.{badIn, stepIn}
 use Rattle.question.specs.Stored.{stored}
 use Rattle.question.proofs.Model.{bad-asked, step-asked}
+use Rattle.call.specs.Call.{rounds}
 use Rattle.search.specs.Lent.{window, storeOf}
 use Rattle.search.specs.Contracts.{Asks}
 
@@ -46,18 +47,18 @@ module _ (y : System) (count : ℕ) (ss ls : List ℕ) (a : Asks (y .n) count ss
 
   -- an answer of steps 1 and 2, taken in
   pub look-next : (room N : ℕ) (o : Option ℕ) → o ≡ badIn (y .n) (y .start) (y .bad) (take count ss) (take count ls) N 0
-      → next (model y) room (at N (storeOf count ss ls) look) ≡ react room N (storeOf count ss ls) look o
+      → next rounds (model y) room (at N (storeOf count ss ls) look) ≡ react rounds room N (storeOf count ss ls) look o
   unfolding next
   look-next room N o e =
-      ap (react room N (storeOf count ss ls) look)
+      ap (react rounds room N (storeOf count ss ls) look)
       (sym (e ∙ (rw fronts at (bad-asked y (take count ss) (take count ls) (a .small) same fronts-tidy N))))
 
   -- an answer of steps 3 and 4, in each phase that asks for a state of R(i) which steps to s
   pub step-next : (room N i s : ℕ) (p : Phase) (o : Option ℕ)
       → wanted (model y) N (storeOf count ss ls) p ≡ (λ t. R (model y) (levelOf (storeOf count ss ls)) i t && model y .step t s)
       → o ≡ stepIn (y .n) (y .start) (y .step) (take count ss) (take count ls) i s 0
-      → next (model y) room (at N (storeOf count ss ls) p) ≡ react room N (storeOf count ss ls) p o
+      → next rounds (model y) room (at N (storeOf count ss ls) p) ≡ react rounds room N (storeOf count ss ls) p o
   unfolding next
   step-next room N i s p o h e =
-      ap (react room N (storeOf count ss ls) p)
+      ap (react rounds room N (storeOf count ss ls) p)
       (sym (e ∙ (rw fronts at (step-asked y (take count ss) (take count ls) (a .small) same fronts-tidy N i s p (rw fronts h)))))

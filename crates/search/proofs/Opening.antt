@@ -13,7 +13,7 @@ use Rattle.ic3.proofs.Least.{least-same}
 use Rattle.ic3.proofs.Shape.{opening-shape}
 use Rattle.system.specs.System.{System, listTrue, model}
 use Rattle.question.specs.Question.{inside, badIn}
-use Rattle.call.specs.Call.{Stores}
+use Rattle.call.specs.Call.{Stores, rounds}
 use Rattle.search.specs.Lent.{storeOf, window, config, configOf}
 use Rattle.search.specs.Contracts.{Lends, Begins, Ends}
 use Rattle.search.specs.declared.react.Why.the-variants.{Spent, NoStart}
@@ -27,7 +27,7 @@ start-asked n start levels = least-same (2 ^ min n 32) _ _ (λ s h. and-true (li
 
 -- without leave to ask
 pub forbidden-ends : (y : System) {room allowance : ℕ} {s : Stores} → Lends (y .n) room s → allowance ≡ 0
-    → Ends (y .n) room (searched (model y) room allowance) (GaveUp Spent) 0 s
+    → Ends (y .n) room (searched rounds (model y) room allowance) (GaveUp Spent) 0 s
 unfolding searched
 forbidden-ends y w e = rw e (record { verdict = refl; questions = refl; counted = tt; lends = w })
 
@@ -38,16 +38,16 @@ first-begins {room = room} w h = record { ready = record { lends = w; shape = op
 
 module _ (y : System) {room allowance : ℕ} {s : Stores} (w : Lends (y .n) room s) (h : 1 ≤ allowance) where
   -- the first answer, taken in
-  taken : (o : Option ℕ) → o ≡ least (2 ^ min (y .n) 32) (listTrue (y .start)) → begun (allowance - 1) (model y) room o ≡ searched (model y) room allowance
+  taken : (o : Option ℕ) → o ≡ least (2 ^ min (y .n) 32) (listTrue (y .start)) → begun rounds (allowance - 1) (model y) room o ≡ searched rounds (model y) room allowance
   unfolding searched model
   taken o e = by allowance h
     where
-      by : (a : ℕ) → 1 ≤ a → begun (a - 1) (model y) room o ≡ searched (model y) room a
+      by : (a : ℕ) → 1 ≤ a → begun rounds (a - 1) (model y) room o ≡ searched rounds (model y) room a
       by zero l = absurd (omega arith)
       by (suc left) l = let z : suc left - 1 ≡ left = omega arith in rw (e, min-eq-left (w .small), z)
 
   -- without a start state
-  pub nowhere-ends : none ≡ least (2 ^ min (y .n) 32) (listTrue (y .start)) → Ends (y .n) room (searched (model y) room allowance) (GaveUp NoStart) 1 s
+  pub nowhere-ends : none ≡ least (2 ^ min (y .n) 32) (listTrue (y .start)) → Ends (y .n) room (searched rounds (model y) room allowance) (GaveUp NoStart) 1 s
   unfolding begun
   nowhere-ends e =
       record {
@@ -59,6 +59,6 @@ module _ (y : System) {room allowance : ℕ} {s : Stores} (w : Lends (y .n) room
 
   -- the run from step 1 is the rest of the search
   pub first-searches : (t : ℕ) → some t ≡ least (2 ^ min (y .n) 32) (listTrue (y .start))
-      → searchFrom (allowance - 1) (model y) room (configOf (config 0 0 Look) s) 1 ≡ searched (model y) room allowance
+      → searchFrom rounds (allowance - 1) (model y) room (configOf (config 0 0 Look) s) 1 ≡ searched rounds (model y) room allowance
   unfolding storeOf window begun
   first-searches t e = taken (some t) e

@@ -11,7 +11,7 @@ use Rattle.ic3.specs.Search as ic3
 use Rattle.ic3.proofs.Bound.{demand-3}
 use Rattle.system.specs.System.{System, model, refusalOf}
 use Rattle.system.proofs.Refusals.{size-right, refusal-none}
-use Rattle.call.specs.Call.{Stores, wrongStores, refused, Said, says-safe, says-unsafe, gives-up, refuses, leaves, ended, called}
+use Rattle.call.specs.Call.{Stores, wrongStores, refused, Said, says-safe, says-unsafe, gives-up, refuses, leaves, ended, rounds, called}
 use Rattle.search.specs.Lent.{verdictOf}
 use Rattle.search.specs.Contracts.{Lends, Ends, Closing, Closes}
 use Rattle.call.specs.Promise.{numberOf, saidOf, questionsOf, countOf, resultOf, Promised}
@@ -56,7 +56,7 @@ module _ (y : System) (lent : Stores) (allowance : ℕ) where
         demand-2 = tt;
         demand-3 = λ m D. rw e at (called-within y lent allowance m D);
         start-asked = rw e at (called-asks y lent allowance);
-        exists-m = demand-3 (model y) .exists;
+        exists-m = demand-3 rounds (model y) .exists;
       })
 
   -- refusals 1 to 3 come from the system alone
@@ -84,7 +84,7 @@ lends y lent h =
     }
 
 module _ (y : System) {lent : Stores} (allowance : ℕ) (h : refused y lent ≡ 0) {e : Verdict} {asked : ℕ} {s : Stores}
-    (w : Ends (y .n) (length (lent .states)) (searched (model y) (length (lent .states)) allowance) e asked s) (k : Lengths lent s) where
+    (w : Ends (y .n) (length (lent .states)) (searched rounds (model y) (length (lent .states)) allowance) e asked s) (k : Lengths lent s) where
   -- the verdict which the search ended with, over the stores s
   abbrev v : ic3.Verdict
   v = verdictOf e s
@@ -105,7 +105,7 @@ module _ (y : System) {lent : Stores} (allowance : ℕ) (h : refused y lent ≡ 
         demand-2 = rw (ap (λ r. r .said) q, ap (λ r. r .evidence) q) (called-right y lent allowance);
         demand-3 = λ m D. rw q (called-within y lent allowance m D);
         start-asked = rw q (called-asks y lent allowance);
-        exists-m = demand-3 (model y) .exists;
+        exists-m = demand-3 rounds (model y) .exists;
       }
 
 -- ---- the promise leaves no choice

@@ -16,6 +16,7 @@ use Rattle.ic3.specs.Shape.{Tidy}
 use Rattle.ic3.proofs.Store.{put-tidy}
 use Rattle.system.specs.System.{System, model}
 use Rattle.question.specs.Question.{stepIn}
+use Rattle.call.specs.Call.{rounds}
 use Rattle.search.specs.Lent.{window, storeOf}
 use Rattle.search.specs.Contracts.{roundFrom, Absent, Raises}
 use Rattle.search.proofs.Windows.{window-apart}
@@ -59,7 +60,7 @@ module _ (y : System) (N count i j : ℕ) (ss ls : List ℕ) (w : Raises (y .n) 
   -- a state was found: on behind the entry
   pub raise-not : (room t : ℕ) → some t ≡ stepIn (y .n) (y .start) (y .step) (take count ss) (take count ls) i (getD ss j 0) 0
       → roundFrom N count i (j + 1) ss ls
-      ≡ next (model y) room (at N (storeOf count ss ls) (raise i (getD ss j 0) (states (eqb i) (window (count - suc j) (suc j) ss ls))))
+      ≡ next rounds (model y) room (at N (storeOf count ss ls) (raise i (getD ss j 0) (states (eqb i) (window (count - suc j) (suc j) ss ls))))
   unfolding react wanted
   raise-not room t q =
       (rw (add-one j) (round-below N count ss ls i (suc j) (w .below)))
@@ -68,7 +69,7 @@ module _ (y : System) (N count i j : ℕ) (ss ls : List ℕ) (w : Raises (y .n) 
   -- none was found: on behind the entry, with the entry's level raised
   pub raise-up : (room : ℕ) → none ≡ stepIn (y .n) (y .start) (y .step) (take count ss) (take count ls) i (getD ss j 0) 0
       → roundFrom N count i (j + 1) ss (set ls j (i + 1))
-      ≡ next (model y) room (at N (storeOf count ss ls) (raise i (getD ss j 0) (states (eqb i) (window (count - suc j) (suc j) ss ls))))
+      ≡ next rounds (model y) room (at N (storeOf count ss ls) (raise i (getD ss j 0) (states (eqb i) (window (count - suc j) (suc j) ss ls))))
   unfolding react wanted
   raise-up room q =
       (rw (add-one j)

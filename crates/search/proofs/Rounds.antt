@@ -11,9 +11,10 @@ use borrow.Author.Tests.{eqb-true, eqb-false, eq-eqb, ne-eqb, ltb-true, ltb-fals
 use lib.Dec.{eqb, leb, ltb}
 use lib.ListN.{getD}
 use Rattle.base.proofs.Tests.{test}
-use Rattle.ic3.specs.Search.{Entry, levelOf, states, look, raise, at, safe, go, stop, judge, round, tested}
+use Rattle.ic3.specs.Search.{Entry, levelOf, states, look, raise, at, safe, go, stop, judge, goesOn, round, tested}
 use Rattle.ic3.specs.Shape.{Tidy}
 use Rattle.ic3.proofs.Round.{level-head}
+use Rattle.call.specs.Call.{rounds}
 use Rattle.search.specs.Lent.{window, storeOf}
 use Rattle.search.specs.Contracts.{roundFrom, Absent, FirstAt, LeastGap}
 
@@ -69,20 +70,20 @@ module _ (count : ℕ) (ss ls : List ℕ) where
 -- ---- step 4
 module _ (N : ℕ) (st : List Entry) (w : Tidy st) where
   -- step 4 from the first entry of a level below N on is a round from that level on
-  tested-round : (i : ℕ) → 1 ≤ i → i < N → tested N st i (states (eqb i) st) ≡ round N (N - i) i st
-  unfolding tested round
+  tested-round : (i : ℕ) → 1 ≤ i → i < N → tested rounds N st i (states (eqb i) st) ≡ round rounds N (N - i) i st
+  unfolding tested round goesOn
   tested-round i h l =
       let e : N - i ≡ suc (N - suc i) = omega arith in
       rw e (pick (states (eqb i) st) refl)
     where
       pick : (t : List ℕ) → states (eqb i) st ≡ t
-          → tested N st i t ≡ (elim t [ [] ↦ round N (N - suc i) (suc i) st | s ∷ todo ↦ go (at N st (raise i s todo)) ])
+          → tested rounds N st i t ≡ (elim t [ [] ↦ round rounds N (N - suc i) (suc i) st | s ∷ todo ↦ go (at N st (raise i s todo)) ])
       pick [] q = refl
       pick (s ∷ todo) q = rw (eq-eqb (levelOf st s) i (level-head st w i h s todo q), tested)
 
 module _ (N count : ℕ) (ss ls : List ℕ) where
   -- step 4 at a level below N
-  pub round-below : (i j : ℕ) → i < N → roundFrom N count i j ss ls ≡ tested N (storeOf count ss ls) i (states (eqb i) (window (count - j) j ss ls))
+  pub round-below : (i j : ℕ) → i < N → roundFrom N count i j ss ls ≡ tested rounds N (storeOf count ss ls) i (states (eqb i) (window (count - j) j ss ls))
   unfolding roundFrom
   round-below i j h = rw (lt-ltb i N h, roundFrom)
 
@@ -92,7 +93,7 @@ module _ (N count : ℕ) (ss ls : List ℕ) where
   round-judged i j h = rw (le-ltb i N h, roundFrom)
 
   -- step 4 from the first entry on is a round
-  pub round-start : Tidy (storeOf count ss ls) → (i : ℕ) → 1 ≤ i → i ≤ N → roundFrom N count i 0 ss ls ≡ round N (N - i) i (storeOf count ss ls)
+  pub round-start : Tidy (storeOf count ss ls) → (i : ℕ) → 1 ≤ i → i ≤ N → roundFrom N count i 0 ss ls ≡ round rounds N (N - i) i (storeOf count ss ls)
   unfolding round storeOf
   round-start w i h l =
       test (ltb i N)
@@ -102,7 +103,7 @@ module _ (N count : ℕ) (ss ls : List ℕ) where
   -- no entry from j on sits at the level: on to the next level
   pub round-on : Tidy (storeOf count ss ls) → (i j : ℕ) → 1 ≤ i → i < N → j ≤ count → Absent ls j count i
       → roundFrom N count i j ss ls ≡ roundFrom N count (i + 1) 0 ss ls
-  unfolding tested
+  unfolding tested goesOn
   round-on w i j h l m f =
       round-below i j l
       ∙ rw (states-absent count ss ls i (count - j) j (omega arith) f, add-one) (sym (round-start w (suc i) (omega arith) (omega arith)))

@@ -11,7 +11,7 @@ use Rattle.ic3.specs.Search.{look, settle, wanted, at, put, round, found, deepe
 use Rattle.ic3.specs.Search as ic3
 use Rattle.system.specs.System.{System, model}
 use Rattle.question.specs.Question.{badIn, stepIn}
-use Rattle.call.specs.Call.{Stores}
+use Rattle.call.specs.Call.{Stores, rounds}
 use Rattle.search.specs.Lent.{storeOf}
 use Rattle.search.specs.Contracts.{roundFrom, Asks, Moves}
 use Rattle.search.specs.declared.react.Move.{Move}
@@ -25,28 +25,28 @@ moves-to e w = record { onward = w .onward ∙ e; bounded = w .bounded }
 module _ (y : System) (count : ℕ) (ss ls : List ℕ) (a : Asks (y .n) count ss ls) (room N : ℕ) where
   -- a bad state is found
   pub look-some : (s : ℕ) → some s ≡ badIn (y .n) (y .start) (y .bad) (take count ss) (take count ls) N 0
-      → found N (storeOf count ss ls) s ≡ next (model y) room (at N (storeOf count ss ls) look)
+      → found N (storeOf count ss ls) s ≡ next rounds (model y) room (at N (storeOf count ss ls) look)
   unfolding react
   look-some s e = sym (look-next y count ss ls a room N (some s) e)
 
   -- with no bad state step 4 begins, and N is one more
   pub look-none : none ≡ badIn (y .n) (y .start) (y .bad) (take count ss) (take count ls) N 0
-      → roundFrom (N + 1) count 1 0 ss ls ≡ next (model y) room (at N (storeOf count ss ls) look)
+      → roundFrom (N + 1) count 1 0 ss ls ≡ next rounds (model y) room (at N (storeOf count ss ls) look)
   unfolding react
   look-none e =
       let z : suc N - 1 ≡ N = omega arith in
       let begun = round-start (suc N) count ss ls (a .tidy) 1 (omega arith) (omega arith) in
-      (rw (add-one N) (begun ∙ ap (λ left. round (suc N) left 1 (storeOf count ss ls)) z)) ∙ sym (look-next y count ss ls a room N none e)
+      (rw (add-one N) (begun ∙ ap (λ left. round rounds (suc N) left 1 (storeOf count ss ls)) z)) ∙ sym (look-next y count ss ls a room N none e)
 
   module _ (k s : ℕ) (ds : List ℕ) where
     -- a state steps to that of the duty
     pub settle-some : (t : ℕ) → some t ≡ stepIn (y .n) (y .start) (y .step) (take count ss) (take count ls) k s 0
-        → deeper N (storeOf count ss ls) k s ds t ≡ next (model y) room (at N (storeOf count ss ls) (settle k s ds))
+        → deeper N (storeOf count ss ls) k s ds t ≡ next rounds (model y) room (at N (storeOf count ss ls) (settle k s ds))
     unfolding react wanted
     settle-some t e = sym (step-next y count ss ls a room N k s (settle k s ds) (some t) refl e)
 
     -- none does: the state of the duty gets its level
     pub settle-none : none ≡ stepIn (y .n) (y .start) (y .step) (take count ss) (take count ls) k s 0
-        → kept room N (put (storeOf count ss ls) s (suc k)) k ds ≡ next (model y) room (at N (storeOf count ss ls) (settle k s ds))
+        → kept room N (put (storeOf count ss ls) s (suc k)) k ds ≡ next rounds (model y) room (at N (storeOf count ss ls) (settle k s ds))
     unfolding react wanted
     settle-none e = sym (step-next y count ss ls a room N k s (settle k s ds) none refl e)

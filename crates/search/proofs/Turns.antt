@@ -11,7 +11,7 @@ use Rattle.ic3.specs.Search as ic3
 use Rattle.ic3.proofs.From.{from-out, from-go, from-stop}
 use Rattle.ic3.proofs.Shape.{next-keeps-shape}
 use Rattle.system.specs.System.{System, model}
-use Rattle.call.specs.Call.{Stores}
+use Rattle.call.specs.Call.{Stores, rounds}
 use Rattle.call.proofs.Call.{Lengths}
 use Rattle.search.specs.Lent.{storeOf, window, config, configOf}
 use Rattle.search.specs.Contracts.{Asks, Raises, Lends, Ready, Moves, Begins, Ends}
@@ -67,7 +67,7 @@ pub record Running (y : System) (allowance : ℕ) (s₀ : Stores) (ending : ic3.
   pub ready : Ready (y .n) (length (s₀ .states)) c s
   pub lengths : Lengths s₀ s
   pub within : asked ≤ allowance
-  pub rest : searchFrom (allowance - asked) (model y) (length (s₀ .states)) (configOf c s) asked ≡ ending
+  pub rest : searchFrom rounds (allowance - asked) (model y) (length (s₀ .states)) (configOf c s) asked ≡ ending
 
 module _ {y : System} {allowance : ℕ} {s₀ : Stores} {ending : ic3.Ending} {c : Config} {asked : ℕ} {s s' : Stores}
     (w : Running y allowance s₀ ending c asked s) (l : Lengths s s') where
@@ -75,14 +75,14 @@ module _ {y : System} {allowance : ℕ} {s₀ : Stores} {ending : ic3.Ending} {c
   room = length (s₀ .states)
 
   -- the turn keeps the shape, in every system; and the rest of the run is one turn shorter
-  pub running-go : {d : Config} → asked < allowance → Moves (Go d) s' (next (model y) room (configOf c s))
+  pub running-go : {d : Config} → asked < allowance → Moves (Go d) s' (next rounds (model y) room (configOf c s))
       → Running y allowance s₀ ending d (asked + 1) s'
   running-go {d} h m =
       let left : allowance - asked ≡ suc (allowance - (asked + 1)) = omega arith in
       record {
         ready = record {
           lends = lends-kept (w .ready .lends) l;
-          shape = rw (sym (m .onward)) at (next-keeps-shape room (model y) (configOf c s) (w .ready .shape));
+          shape = rw (sym (m .onward)) at (next-keeps-shape room rounds (model y) (configOf c s) (w .ready .shape));
           indexed = m .bounded;
         };
         lengths = record {
@@ -91,16 +91,16 @@ module _ {y : System} {allowance : ℕ} {s₀ : Stores} {ending : ic3.Ending} {c
           path = l .path ∙ w .lengths .path;
         };
         within = omega arith;
-        rest = rw (add-one asked) (sym (from-go (model y) room (allowance - suc asked) (configOf c s) (configOf d s') asked (sym (m .onward)))
+        rest = rw (add-one asked) (sym (from-go rounds (model y) room (allowance - suc asked) (configOf c s) (configOf d s') asked (sym (m .onward)))
             ∙ (rw (left, add-one asked) at (w .rest)));
       }
 
   -- the ending of the turn is that of the run
-  pub running-stop : {v : Verdict} → asked < allowance → Moves (Stop v) s' (next (model y) room (configOf c s))
+  pub running-stop : {v : Verdict} → asked < allowance → Moves (Stop v) s' (next rounds (model y) room (configOf c s))
       → Ends (y .n) room ending v (asked + 1) s'
   running-stop h m =
       let left : allowance - asked ≡ suc (allowance - suc asked) = omega arith in
-      let all = sym (rw left at (w .rest)) ∙ from-stop (model y) room (allowance - suc asked) (configOf c s) _ asked (sym (m .onward)) in
+      let all = sym (rw left at (w .rest)) ∙ from-stop rounds (model y) room (allowance - suc asked) (configOf c s) _ asked (sym (m .onward)) in
       record {
         verdict = sym (ap (λ z. z .verdict) all);
         questions = add-one asked ∙ sym (ap (λ z. z .questions) all);
@@ -113,7 +113,7 @@ pub running-spent : {y : System} {allowance : ℕ} {s₀ : Stores} {ending : ic3
     → Running y allowance s₀ ending c asked s → allowance ≤ asked → Ends (y .n) (length (s₀ .states)) ending (GaveUp Spent) asked s
 running-spent {y} {allowance} {s₀} {c = c} {asked} {s} w h =
     let none : allowance - asked ≡ 0 = omega arith in
-    let all = sym (rw none at (w .rest)) ∙ from-out (model y) (length (s₀ .states)) (configOf c s) asked in
+    let all = sym (rw none at (w .rest)) ∙ from-out rounds (model y) (length (s₀ .states)) (configOf c s) asked in
     record {
       verdict = sym (ap (λ z. z .verdict) all);
       questions = sym (ap (λ z. z .questions) all);

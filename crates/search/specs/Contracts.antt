@@ -8,7 +8,7 @@ use lib.ListN.{length, getD, take}
 use Rattle.ic3.specs.Search.{put, states, fits, judge, tested}
 use Rattle.ic3.specs.Search as ic3
 use Rattle.ic3.specs.Shape.{Tidy, Shape}
-use Rattle.call.specs.Call.{Stores, ended}
+use Rattle.call.specs.Call.{Stores, ended, rounds}
 use Rattle.call.specs.Promise.{countOf, resultOf}
 use Rattle.call.specs.declared.Outcome.{Outcome}
 use Rattle.search.specs.Lent.{window, storeOf, configOf, verdictOf, moveOf}
@@ -108,7 +108,7 @@ pub record Blocks (N k count : ℕ) (ss ls : List ℕ) : Type 0 where
 unfoldable pub roundFrom : ℕ → ℕ → ℕ → ℕ → List ℕ → List ℕ → ic3.Move
 roundFrom N count i j ss ls =
     elim (ltb i N) [
-      | true ↦ tested N (storeOf count ss ls) i (states (eqb i) (window (count - j) j ss ls))
+      | true ↦ tested rounds N (storeOf count ss ls) i (states (eqb i) (window (count - j) j ss ls))
       | false ↦ judge N (N - 1) 1 (storeOf count ss ls)
     ]
 

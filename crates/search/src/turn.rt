@@ -9,6 +9,7 @@ ghost use Rattle.ic3.specs.Model.{least};
 ghost use Rattle.ic3.specs.Search as ic3;
 ghost use Rattle.system.specs.System.{listTrue, model, systemOf};
 ghost use Rattle.question.specs.Question.{answered, badIn, stepIn};
+ghost use Rattle.call.specs.Call.{rounds};
 ghost use Rattle.call.specs.Promise.{stores};
 ghost use Rattle.search.specs.declared.react.Phase.the-variants.{Look, Settle, Raise};
 ghost use Rattle.search.specs.Lent.{config, configOf};
@@ -83,7 +84,7 @@ fn look(
     requires { ⌜ Ready n (length (now states)) (config N count Look) (stores (now states) (now levels) (now path)) ⌝ }
     ensures { λ r. ⌜
         ((step : List ℕ) → Moves r (stores (now (states .entry)) (now (levels .entry)) (now (path .exit)))
-        (ic3.next (model (systemOf n (now (start .entry)) step (now (bad .entry)))) (length (now (states .entry)))
+        (ic3.next rounds (model (systemOf n (now (start .entry)) step (now (bad .entry)))) (length (now (states .entry)))
         (configOf (config N count Look) (stores (now (states .entry)) (now (levels .entry)) (now (path .entry))))))
         ⌝ }
 {
@@ -109,7 +110,7 @@ fn settle(
     requires { ⌜ Ready n (length (now states)) (config N count (Settle k)) (stores (now states) (now levels) (now path)) ⌝ }
     ensures { λ r. ⌜
         ((bad : List ℕ) → Moves r (stores (now (states .exit)) (now (levels .exit)) (now (path .exit)))
-        (ic3.next (model (systemOf n (now (start .entry)) (now (step .entry)) bad)) (length (now (states .entry)))
+        (ic3.next rounds (model (systemOf n (now (start .entry)) (now (step .entry)) bad)) (length (now (states .entry)))
         (configOf (config N count (Settle k)) (stores (now (states .entry)) (now (levels .entry)) (now (path .entry))))))
         ⌝ }
 {
@@ -136,7 +137,7 @@ fn raise(
     requires { ⌜ Raises n N count i j (now states) (now levels) ⌝ }
     ensures { λ r. ⌜
         ((bad path : List ℕ) → Moves r (stores (now (states .entry)) (now (levels .exit)) path)
-        (ic3.next (model (systemOf n (now (start .entry)) (now (step .entry)) bad)) (length (now (states .entry)))
+        (ic3.next rounds (model (systemOf n (now (start .entry)) (now (step .entry)) bad)) (length (now (states .entry)))
         (configOf (config N count (Raise i j)) (stores (now (states .entry)) (now (levels .entry)) path))))
         ⌝ }
 {
@@ -165,7 +166,7 @@ fn one_turn(
     requires { ⌜ Ready n (length (now states)) c (stores (now states) (now levels) (now path)) ⌝ }
     ensures { λ r. ⌜
         Moves r (stores (now (states .exit)) (now (levels .exit)) (now (path .exit)))
-        (ic3.next (model (systemOf n (now (start .entry)) (now (step .entry)) (now (bad .entry)))) (length (now (states .entry)))
+        (ic3.next rounds (model (systemOf n (now (start .entry)) (now (step .entry)) (now (bad .entry)))) (length (now (states .entry)))
         (configOf c (stores (now (states .entry)) (now (levels .entry)) (now (path .entry)))))
         ⌝ }
 {
@@ -195,7 +196,7 @@ fn all_turns(
     requires { ⌜ Begins n (length (now states)) c asked allowance (stores (now states) (now levels) (now path)) ⌝ }
     ensures { λ r. ⌜
         Ends n (length (now (states .entry)))
-        (ic3.searchFrom (allowance - asked) (model (systemOf n (now (start .entry)) (now (step .entry)) (now (bad .entry))))
+        (ic3.searchFrom rounds (allowance - asked) (model (systemOf n (now (start .entry)) (now (step .entry)) (now (bad .entry))))
         (length (now (states .entry))) (configOf c (stores (now (states .entry)) (now (levels .entry)) (now (path .entry)))) asked)
         (r .verdict) (r .questions) (stores (now (states .exit)) (now (levels .exit)) (now (path .exit)))
         ⌝ }
@@ -242,7 +243,7 @@ pub(super) fn searched(
     requires { ⌜ Lends n (length (now states)) (stores (now states) (now levels) (now path)) ⌝ }
     ensures { λ r. ⌜
         Ends n (length (now (states .entry)))
-        (ic3.searched (model (systemOf n (now (start .entry)) (now (step .entry)) (now (bad .entry)))) (length (now (states .entry))) allowance)
+        (ic3.searched rounds (model (systemOf n (now (start .entry)) (now (step .entry)) (now (bad .entry)))) (length (now (states .entry))) allowance)
         (r .verdict) (r .questions) (stores (now (states .exit)) (now (levels .exit)) (now (path .exit)))
         ⌝ }
 {
