@@ -1,6 +1,9 @@
 #!/usr/bin/env python3
-"""What the program must write: the same systems, decided from the scope alone, with sets of states and of steps. Each call is worked out by a
-search over lists of states, and its evidence and its length held against a walk."""
+"""Writes what the program must write, and what it reads: `stdout` and `stdin` beside this file.
+
+The same systems, decided from the scope alone, with sets of states and of steps. Each call is worked out by a search over lists of states, and its
+evidence and its length held against a walk. A second search, with full rounds, tells `stdin` the questions that it asks of each system.
+"""
 
 import os
 import sys
@@ -115,10 +118,10 @@ def main():
     kinds = ["no steps", "all steps", "some steps", "steps by short clauses"]
     kinds += ["steps to the next", "to the next and itself", "steps down", "a counter's steps"]
     names += kinds + ["no start state", "no bad state", "all states bad", "bad states not reached", "states without a next"]
-    names += ["safe", "unsafe", "states excluded", "states in paths", "sum of m", "sum of questions", "sum of rooms used", "longest path"]
+    names += ["safe", "unsafe", "states excluded", "states in paths", "sum of m", "sum of questions", "sum with full rounds", "fewer than with those", "sum of rooms used", "longest path"]
     names += ["calls", "room m sufficed", "calls that gave 5", "calls that gave 6", "calls that gave 14", "digest of all calls"]
     counts = dict.fromkeys(names, 0)
-    x, d = 0x9E3779B97F4A7C15, 0
+    x, d, given = 0x9E3779B97F4A7C15, 0, b""
     for i in range(SYSTEMS):
         x = next_number(x)
         n = bits_of(i)
@@ -158,6 +161,11 @@ def main():
             listed = set(evidence)
             assert not listed & starts and listed >= set(bad)
             assert all(s in listed for t in listed for s in before[t])
+        # full rounds
+        whole = Search(starts, before, bad, m, most, full=True)
+        assert whole.run() == (number, said, evidence)
+        assert asked <= whole.asked if said == 0 else asked == whole.asked
+        given += whole.asked.to_bytes(4, "big")
         # the other calls
         assert call(m, asked) == first
         assert call(m, asked - 1)[:4] == (5, 2, [], asked - 1)
@@ -184,6 +192,8 @@ def main():
             "states in paths" if hit else "states excluded": len(evidence),
             "sum of m": m,
             "sum of questions": asked,
+            "sum with full rounds": whole.asked,
+            "fewer than with those": asked < whole.asked,
             "sum of rooms used": used,
             "room m sufficed": bool(start),
         }.items():
@@ -191,10 +201,14 @@ def main():
         if hit:
             counts["longest path"] = max(counts["longest path"], len(evidence))
     counts["digest of all calls"] = d
-    wrong = ["gave up with room m", "verdict differs", "path length differs", "too many questions", "evidence check refuses"]
-    wrong += ["walk refuses", "store not zero", "other answer", "number not 5 or 6"]
-    for name, number in (counts | dict.fromkeys(wrong, 0)).items():
-        print(f"{name:25}{number}")
+    wrong = ["gave up with room m", "verdict differs", "path length differs", "too many questions", "not as with full rounds"]
+    wrong += ["evidence check refuses", "walk refuses", "store not zero", "other answer", "number not 5 or 6"]
+    folder = os.path.dirname(os.path.abspath(__file__))
+    with open(os.path.join(folder, "stdin"), "wb") as file:
+        file.write(given)
+    with open(os.path.join(folder, "stdout"), "w") as file:
+        for name, number in (counts | dict.fromkeys(wrong, 0)).items():
+            file.write(f"{name:25}{number}\n")
 
 
 main()

@@ -6,11 +6,12 @@ class Over(Exception):
 
 
 class Search:
-    """The search of the scope, over sets of states: `before[t]` has the states that step to t, in order, and `bad` the bad ones."""
+    """The search of the scope, over sets of states: `before[t]` has the states that step to t, in order, and `bad` the bad ones.
+    With full rounds step 4 goes through all levels, as it did before it was shortened."""
 
-    def __init__(self, start, before, bad, room, allowance):
+    def __init__(self, start, before, bad, room, allowance, full=False):
         self.start, self.before, self.bad = start, before, bad
-        self.room, self.allowance = room, allowance
+        self.room, self.allowance, self.full = room, allowance, full
         self.level, self.asked = {}, 0
 
     def ask(self, states, i):
@@ -69,6 +70,8 @@ class Search:
                 for s in list(self.level):
                     if self.level[s] == i and self.ask(self.before[s], i) is None:
                         self.level[s] = i + 1
+                if not self.full and i not in self.level.values():
+                    break
             sits = set(self.level.values())
             for i in range(1, top):
                 if i not in sits:

@@ -6,7 +6,7 @@ use lib.Dec.{eqb, ltb}
 use lib.ListN.{length}
 use Rattle.base.specs.Refusals.{_if_, _else_, mostStored}
 use Rattle.stores.specs.Over.{over}
-use Rattle.ic3.specs.Search.{Why, noRoom, spent, noStart, Verdict, safe, unsafe, gaveUp, Rounds, full, searched}
+use Rattle.ic3.specs.Search.{Why, noRoom, spent, noStart, Verdict, safe, unsafe, gaveUp, Rounds, shortened, searched}
 use Rattle.system.specs.System.{System, model, refusalOf}
 
 -- the state store, the level store and the path store
@@ -60,7 +60,7 @@ ended s q (gaveUp why) = result (whyNumber why) gives-up q [] (leaves s [] [])
 
 -- the rounds of step 4
 abbrev pub rounds : Rounds
-rounds = full
+rounds = shortened
 
 -- THE CALL. The room is the length of the state store. A refusal reports zero questions and leaves the stores untouched.
 unfoldable pub called : System → Stores → ℕ → Result

@@ -128,7 +128,7 @@ sequencers any =
     ∷ (sequencer late 4 17 0 says-unsafe latePath 17
     ∷ (sequencer late 4 16 5 gives-up [] 16
     ∷ (sequencer late 4 0 5 gives-up [] 0
-    ∷ (sequencer chain 4 1000 0 says-safe (3 ∷ (1 ∷ (2 ∷ []))) 26
+    ∷ (sequencer chain 4 1000 0 says-safe (3 ∷ (1 ∷ (2 ∷ []))) 21
     ∷ (sequencer emptyLists 4 1000 0 says-unsafe (0 ∷ []) 2
     ∷ (sequencer badFalse 4 1000 0 says-safe [] 3
     ∷ (sequencer noStart any 1000 14 gives-up [] 1

@@ -4,7 +4,7 @@
 use Prim.Native.Nat.{ℕ, zero, suc, _+_, _-_, _≤_, _<_}
 use mathlib.Core.List.{List}
 use mathlib.Core.Option.{none, some}
-use mathlib.Core.Path.{_≡_, refl, sym, ap, _∙_}
+use mathlib.Core.Path.{_≡_, refl, sym, ap}
 use native.Mathlib.Omega.{arith}
 use native.Mathlib.Numerals.{add-one}
 use borrow.Author.Tests.{eqb-true, eqb-false}
@@ -18,10 +18,10 @@ use Rattle.system.specs.System.{System, model}
 use Rattle.question.specs.Question.{stepIn}
 use Rattle.call.specs.Call.{rounds}
 use Rattle.search.specs.Lent.{window, storeOf}
-use Rattle.search.specs.Contracts.{roundFrom, Absent, Raises}
+use Rattle.search.specs.Contracts.{testedFrom, Absent, Raises}
 use Rattle.search.proofs.Windows.{window-apart}
 use Rattle.search.proofs.Keeping.{put-found}
-use Rattle.search.proofs.Rounds.{level-entry, round-below}
+use Rattle.search.proofs.Rounds.{level-entry}
 use Rattle.search.proofs.Asked.{step-next}
 
 -- no earlier entry of a tidy window has the state of entry j: behind the earlier one its state has no level
@@ -59,20 +59,18 @@ module _ {n N count i j : ℕ} {ss ls : List ℕ} (w : Raises n N count i j ss l
 module _ (y : System) (N count i j : ℕ) (ss ls : List ℕ) (w : Raises (y .n) N count i j ss ls) where
   -- a state was found: on behind the entry
   pub raise-not : (room t : ℕ) → some t ≡ stepIn (y .n) (y .start) (y .step) (take count ss) (take count ls) i (getD ss j 0) 0
-      → roundFrom N count i (j + 1) ss ls
+      → testedFrom N count i (j + 1) ss ls
       ≡ next rounds (model y) room (at N (storeOf count ss ls) (raise i (getD ss j 0) (states (eqb i) (window (count - suc j) (suc j) ss ls))))
-  unfolding react wanted
+  unfolding react wanted testedFrom
   raise-not room t q =
-      (rw (add-one j) (round-below N count ss ls i (suc j) (w .below)))
-      ∙ sym (step-next y count ss ls (w .asks) room N i (getD ss j 0) (raise i (getD ss j 0) _) (some t) refl q)
+      rw (add-one j)
+      (sym (step-next y count ss ls (w .asks) room N i (getD ss j 0) (raise i (getD ss j 0) _) (some t) refl q))
 
   -- none was found: on behind the entry, with the entry's level raised
   pub raise-up : (room : ℕ) → none ≡ stepIn (y .n) (y .start) (y .step) (take count ss) (take count ls) i (getD ss j 0) 0
-      → roundFrom N count i (j + 1) ss (set ls j (i + 1))
+      → testedFrom N count i (j + 1) ss (set ls j (i + 1))
       ≡ next rounds (model y) room (at N (storeOf count ss ls) (raise i (getD ss j 0) (states (eqb i) (window (count - suc j) (suc j) ss ls))))
-  unfolding react wanted
+  unfolding react wanted testedFrom
   raise-up room q =
-      (rw (add-one j)
-      (round-below N count ss (set ls j (i + 1)) i (suc j) (w .below)
-      ∙ rw (raised-store w, window-apart (count - suc j) (suc j) j ss ls (i + 1) (omega arith)) refl))
-      ∙ sym (step-next y count ss ls (w .asks) room N i (getD ss j 0) (raise i (getD ss j 0) _) none refl q)
+      rw (add-one j, raised-store w, window-apart (count - suc j) (suc j) j ss ls (i + 1) (omega arith))
+      (sym (step-next y count ss ls (w .asks) room N i (getD ss j 0) (raise i (getD ss j 0) _) none refl q))

@@ -1,22 +1,21 @@
 -- Steps 4 and 5 over the level store. The states that a window of the store has at a level are none, if no index of it has the level, and else
--- begin with the state of the first index that has it; that state's level is the entry's, since no state is stored twice. So step 4 goes on from
--- one level to the next where no entry from j on is left, and else comes to the first one; and step 5 stops at the least gap. Assumes nothing.
+-- begin with the state of the first index that has it; that state's level is the entry's, since no state is stored twice. So step 4 comes to the
+-- first entry of the level from j on; where there is none, one before j decides whether it goes on to the next level; and step 5 stops at the least
+-- gap. Assumes nothing.
 use Prim.Native.Nat.{ℕ, zero, suc, _+_, _-_, _≤_, _<_}
 use mathlib.Core.List.{List, [], _∷_}
 use mathlib.Core.Path.{_≡_, refl, sym, ap, _∙_}
 use native.Mathlib.Omega.{arith}
-use native.Mathlib.Nat.{sub-zero}
 use native.Mathlib.Numerals.{add-one}
-use borrow.Author.Tests.{eqb-true, eqb-false, eq-eqb, ne-eqb, ltb-true, ltb-false, lt-ltb, le-ltb}
+use borrow.Author.Tests.{eqb-true, eqb-false, eq-eqb, ne-eqb, ltb-true, ltb-false}
 use lib.Dec.{eqb, leb, ltb}
 use lib.ListN.{getD}
 use Rattle.base.proofs.Tests.{test}
-use Rattle.ic3.specs.Search.{Entry, levelOf, states, look, raise, at, safe, go, stop, judge, goesOn, round, tested}
+use Rattle.ic3.specs.Search.{levelOf, states, look, raise, at, safe, go, stop, judge, goesOn, round, tested}
 use Rattle.ic3.specs.Shape.{Tidy}
-use Rattle.ic3.proofs.Round.{level-head}
 use Rattle.call.specs.Call.{rounds}
 use Rattle.search.specs.Lent.{window, storeOf}
-use Rattle.search.specs.Contracts.{roundFrom, Absent, FirstAt, LeastGap}
+use Rattle.search.specs.Contracts.{testedFrom, Absent, FirstAt, LeastGap}
 
 -- ---- windows
 module _ (count : ℕ) (ss ls : List ℕ) where
@@ -68,55 +67,59 @@ module _ (count : ℕ) (ss ls : List ℕ) where
       ))
 
 -- ---- step 4
-module _ (N : ℕ) (st : List Entry) (w : Tidy st) where
-  -- step 4 from the first entry of a level below N on is a round from that level on
-  tested-round : (i : ℕ) → 1 ≤ i → i < N → tested rounds N st i (states (eqb i) st) ≡ round rounds N (N - i) i st
-  unfolding tested round goesOn
-  tested-round i h l =
-      let e : N - i ≡ suc (N - suc i) = omega arith in
-      rw e (pick (states (eqb i) st) refl)
-    where
-      pick : (t : List ℕ) → states (eqb i) st ≡ t
-          → tested rounds N st i t ≡ (elim t [ [] ↦ round rounds N (N - suc i) (suc i) st | s ∷ todo ↦ go (at N st (raise i s todo)) ])
-      pick [] q = refl
-      pick (s ∷ todo) q = rw (eq-eqb (levelOf st s) i (level-head st w i h s todo q), tested)
-
 module _ (N count : ℕ) (ss ls : List ℕ) where
-  -- step 4 at a level below N
-  pub round-below : (i j : ℕ) → i < N → roundFrom N count i j ss ls ≡ tested rounds N (storeOf count ss ls) i (states (eqb i) (window (count - j) j ss ls))
-  unfolding roundFrom
-  round-below i j h = rw (lt-ltb i N h, roundFrom)
-
   -- with no level left below N, step 5
-  pub round-judged : (i j : ℕ) → N ≤ i → roundFrom N count i j ss ls ≡ judge N (N - 1) 1 (storeOf count ss ls)
-  unfolding roundFrom
-  round-judged i j h = rw (le-ltb i N h, roundFrom)
+  pub round-judged : (i : ℕ) → i ≡ N → round rounds N (N - i) i (storeOf count ss ls) ≡ judge N (N - 1) 1 (storeOf count ss ls)
+  unfolding round
+  round-judged i h = let e : N - i ≡ 0 = omega arith in rw e
 
-  -- step 4 from the first entry on is a round
-  pub round-start : Tidy (storeOf count ss ls) → (i : ℕ) → 1 ≤ i → i ≤ N → roundFrom N count i 0 ss ls ≡ round rounds N (N - i) i (storeOf count ss ls)
-  unfolding round storeOf
-  round-start w i h l =
-      test (ltb i N)
-      (λ q. (rw (sub-zero count) at (round-below i 0 (ltb-true i N q))) ∙ tested-round N (storeOf count ss ls) w i h (ltb-true i N q))
-      (λ q. let e : N - i ≡ 0 = omega (arith, ltb-false i N q) in rw e (round-judged i 0 (ltb-false i N q)))
+  module _ (i : ℕ) (l : i < N) where
+    -- the first entry of a level
+    pub round-raises : (k : ℕ) → k < count → FirstAt ls 0 count i k
+        → round rounds N (N - i) i (storeOf count ss ls)
+        ≡ go (at N (storeOf count ss ls) (raise i (getD ss k 0) (states (eqb i) (window (count - suc k) (suc k) ss ls))))
+    unfolding round storeOf
+    round-raises k b f =
+        let e : N - i ≡ suc (N - suc i) = omega arith in
+        rw e (rw (states-first count ss ls i k count 0 (omega arith) (omega arith) b (f .here b) (f .before), round))
 
-  -- no entry from j on sits at the level: on to the next level
-  pub round-on : Tidy (storeOf count ss ls) → (i j : ℕ) → 1 ≤ i → i < N → j ≤ count → Absent ls j count i
-      → roundFrom N count i j ss ls ≡ roundFrom N count (i + 1) 0 ss ls
-  unfolding tested goesOn
-  round-on w i j h l m f =
-      round-below i j l
-      ∙ rw (states-absent count ss ls i (count - j) j (omega arith) f, add-one) (sym (round-start w (suc i) (omega arith) (omega arith)))
+    -- a level without entries: a shortened round does not go on
+    pub round-stops : Absent ls 0 count i → round rounds N (N - i) i (storeOf count ss ls) ≡ judge N (N - 1) 1 (storeOf count ss ls)
+    unfolding round goesOn storeOf
+    round-stops f =
+        let e : N - i ≡ suc (N - suc i) = omega arith in
+        rw e (rw (states-absent count ss ls i count 0 (omega arith) f, round))
 
-  -- the next entry of the level
-  pub round-raises : Tidy (storeOf count ss ls) → (i j k : ℕ) → i < N → j ≤ count → k < count → FirstAt ls j count i k
-      → roundFrom N count i j ss ls
-      ≡ go (at N (storeOf count ss ls) (raise i (getD ss k 0) (states (eqb i) (window (count - suc k) (suc k) ss ls))))
-  unfolding tested storeOf
-  round-raises w i j k l m b f =
-      round-below i j l
-      ∙ rw (states-first count ss ls i k (count - j) j (omega arith) (f .from) b (f .here b) (f .before))
-      (rw (eq-eqb _ i (level-entry count ss ls k count 0 (omega arith) (omega arith) b w .0 ∙ f .here b), tested))
+  module _ (i j : ℕ) (m : j ≤ count) where
+    -- the next entry of the level
+    pub tested-raises : Tidy (storeOf count ss ls) → (k : ℕ) → k < count → FirstAt ls j count i k
+        → testedFrom N count i j ss ls
+        ≡ go (at N (storeOf count ss ls) (raise i (getD ss k 0) (states (eqb i) (window (count - suc k) (suc k) ss ls))))
+    unfolding testedFrom tested storeOf
+    tested-raises w k b f =
+        rw (states-first count ss ls i k (count - j) j (omega arith) (f .from) b (f .here b) (f .before))
+        (rw (eq-eqb _ i (level-entry count ss ls k count 0 (omega arith) (omega arith) b w .0 ∙ f .here b), tested))
+
+    module _ (f : Absent ls j count i) where
+      -- no entry is left to be tested, and one that was sits there still: on to the next level
+      pub tested-on : (k : ℕ) → k < j → getD ls k 0 ≡ i → testedFrom N count i j ss ls ≡ round rounds N (N - (i + 1)) (i + 1) (storeOf count ss ls)
+      unfolding testedFrom tested goesOn storeOf
+      tested-on k b h = rw (states-absent count ss ls i (count - j) j (omega arith) f, add-one i) (pick (states (eqb i) (window count 0 ss ls)) refl)
+        where
+          pick : (l : List ℕ) → states (eqb i) (window count 0 ss ls) ≡ l
+              → tested rounds N (window count 0 ss ls) i [] ≡ round rounds N (N - suc i) (suc i) (window count 0 ss ls)
+          pick [] q = absurd (states-none count ss ls i count 0 (omega arith) q k (omega arith) (omega arith) h)
+          pick (s ∷ l) q = rw (q, tested)
+
+      -- none sits there any more: step 5
+      pub tested-stops : Absent ls 0 j i → testedFrom N count i j ss ls ≡ judge N (N - 1) 1 (storeOf count ss ls)
+      unfolding testedFrom tested goesOn storeOf
+      tested-stops g =
+          rw (states-absent count ss ls i (count - j) j (omega arith) f)
+          (rw (states-absent count ss ls i count 0 (omega arith) none, tested))
+        where
+          none : Absent ls 0 count i
+          none l a b q = test (ltb l j) (λ e. g l a (ltb-true l j e) q) (λ e. f l (ltb-false l j e) b q)
 
 -- ---- step 5
 module _ (N count r : ℕ) (ss ls : List ℕ) (g : LeastGap ls count N r) where

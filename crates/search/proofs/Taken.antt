@@ -1,9 +1,8 @@
--- An answer taken in, for steps 2 and 3: what the search does next is what its definition has for that answer, a state or none. With none in step
--- 2, a round from level 1 on is step 4 from the first entry of that level on. Assumes nothing.
+-- An answer taken in, for steps 2 and 3: what the search does next is what its definition has for that answer, a state or none. Assumes nothing.
 use Prim.Native.Nat.{ℕ, suc, _+_, _-_}
 use mathlib.Core.List.{List}
 use mathlib.Core.Option.{none, some}
-use mathlib.Core.Path.{_≡_, refl, sym, ap, _∙_}
+use mathlib.Core.Path.{_≡_, refl, sym, _∙_}
 use native.Mathlib.Omega.{arith}
 use native.Mathlib.Numerals.{add-one}
 use lib.ListN.{take}
@@ -13,10 +12,9 @@ use Rattle.system.specs.System.{System, model}
 use Rattle.question.specs.Question.{badIn, stepIn}
 use Rattle.call.specs.Call.{Stores, rounds}
 use Rattle.search.specs.Lent.{storeOf}
-use Rattle.search.specs.Contracts.{roundFrom, Asks, Moves}
+use Rattle.search.specs.Contracts.{Asks, Moves}
 use Rattle.search.specs.declared.react.Move.{Move}
 use Rattle.search.proofs.Asked.{look-next, step-next}
-use Rattle.search.proofs.Rounds.{round-start}
 
 -- a move that is the definition's for the answer is the definition's for the question
 pub moves-to : {r : Move} {s : Stores} {m m' : ic3.Move} → m ≡ m' → Moves r s m → Moves r s m'
@@ -31,12 +29,11 @@ module _ (y : System) (count : ℕ) (ss ls : List ℕ) (a : Asks (y .n) count ss
 
   -- with no bad state step 4 begins, and N is one more
   pub look-none : none ≡ badIn (y .n) (y .start) (y .bad) (take count ss) (take count ls) N 0
-      → roundFrom (N + 1) count 1 0 ss ls ≡ next rounds (model y) room (at N (storeOf count ss ls) look)
+      → round rounds (N + 1) (N + 1 - 1) 1 (storeOf count ss ls) ≡ next rounds (model y) room (at N (storeOf count ss ls) look)
   unfolding react
   look-none e =
       let z : suc N - 1 ≡ N = omega arith in
-      let begun = round-start (suc N) count ss ls (a .tidy) 1 (omega arith) (omega arith) in
-      (rw (add-one N) (begun ∙ ap (λ left. round rounds (suc N) left 1 (storeOf count ss ls)) z)) ∙ sym (look-next y count ss ls a room N none e)
+      rw (add-one N, z) (sym (look-next y count ss ls a room N none e))
 
   module _ (k s : ℕ) (ds : List ℕ) where
     -- a state steps to that of the duty

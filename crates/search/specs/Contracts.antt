@@ -3,9 +3,9 @@ use Prim.Native.Nat.{ℕ, _+_, _-_, _≤_, _<_}
 use mathlib.Core.Bool.{true, false}
 use mathlib.Core.List.{List}
 use mathlib.Core.Path.{_≡_}
-use lib.Dec.{eqb, leb, ltb}
+use lib.Dec.{eqb, leb}
 use lib.ListN.{length, getD, take}
-use Rattle.ic3.specs.Search.{put, states, fits, judge, tested}
+use Rattle.ic3.specs.Search.{put, states, fits, tested}
 use Rattle.ic3.specs.Search as ic3
 use Rattle.ic3.specs.Shape.{Tidy, Shape}
 use Rattle.call.specs.Call.{Stores, ended, rounds}
@@ -38,6 +38,12 @@ pub record FirstAt (xs : List ℕ) (j count s r : ℕ) : Type 0 where
   pub within : r ≤ count
   pub here : r < count → getD xs r 0 ≡ s
   pub before : Absent xs j r s
+
+-- r is one more than the last index below j at which s stands, or 0
+pub record LastAt (xs : List ℕ) (j s r : ℕ) : Type 0 where
+  pub within : r ≤ j
+  pub here : 1 ≤ r → getD xs (r - 1) 0 ≡ s
+  pub behind : Absent xs r j s
 
 -- a walk over the levels of `count` entries begins at entry j
 pub record Walks (ls : List ℕ) (count j : ℕ) : Type 0 where
@@ -104,19 +110,21 @@ pub record Blocks (N k count : ℕ) (ss ls : List ℕ) : Type 0 where
   pub below : k < N
   pub holds : Holds count ss ls
 
--- step 4 from entry j of level i on; with no level left below N, step 5
-unfoldable pub roundFrom : ℕ → ℕ → ℕ → ℕ → List ℕ → List ℕ → ic3.Move
-roundFrom N count i j ss ls =
-    elim (ltb i N) [
-      | true ↦ tested rounds N (storeOf count ss ls) i (states (eqb i) (window (count - j) j ss ls))
-      | false ↦ judge N (N - 1) 1 (storeOf count ss ls)
-    ]
-
--- step 4 can begin at entry j of level i
-pub record Rounds (ls : List ℕ) (N count i j : ℕ) : Type 0 where
-  pub walks : Walks ls count j
+-- step 4 can come to level i; if that is N, step 5
+pub record Enters (ls : List ℕ) (N count i : ℕ) : Type 0 where
+  pub within : count ≤ length ls
   pub above : 1 ≤ i
   pub below : i ≤ N
+
+-- step 4 at level i, with the entries before j behind it
+unfoldable pub testedFrom : ℕ → ℕ → ℕ → ℕ → List ℕ → List ℕ → ic3.Move
+testedFrom N count i j ss ls = tested rounds N (storeOf count ss ls) i (states (eqb i) (window (count - j) j ss ls))
+
+-- step 4 can go on at entry j of level i
+pub record Tests (ls : List ℕ) (N count i j : ℕ) : Type 0 where
+  pub walks : Walks ls count j
+  pub above : 1 ≤ i
+  pub below : i < N
 
 -- ---- a question, asked and taken in
 -- a question's store is tidy; and n is one that is not refused

@@ -7,12 +7,13 @@ ghost use mathlib.Core.Path.{_≡_};
 ghost use lib.ListN.{length, getD};
 ghost use Rattle.ic3.specs.Search as ic3;
 ghost use Rattle.ic3.specs.Shape.{Tidy};
-ghost use Rattle.call.specs.Call.{Stores};
+ghost use Rattle.call.specs.Call.{Stores, rounds};
 ghost use Rattle.call.specs.Promise.{stores};
 ghost use Rattle.search.specs.Lent.{storeOf, duties};
-ghost use Rattle.search.specs.Contracts.{Opens, Blocks, Judges, Rounds, Moves, roundFrom};
+ghost use Rattle.search.specs.Contracts.{Opens, Blocks, Judges, Enters, Tests, Moves, testedFrom};
 use super::store::Kept;
 use super::store::gap;
+use super::store::last_at;
 use super::store::next_at;
 use super::store::store;
 
@@ -155,27 +156,46 @@ fn judge(levels: &[u32], N: u32, count: usize) -> Move
     })
 }
 
-// Step 4 from entry j of level i on, then step 5.
-pub(super) fn round(levels: &[u32], N: u32, count: usize, i: u32, j: usize) -> Move
-    requires { ⌜ Rounds (now levels) N count i j ⌝ }
+// Step 4 comes to level i: to its first entry, or, with no level left below N or no entry at this one, to step 5.
+pub(super) fn round(levels: &[u32], N: u32, count: usize, i: u32) -> Move
+    requires { ⌜ Enters (now levels) N count i ⌝ }
     ensures { λ r. ⌜
-        ((ss path : List ℕ) → Tidy (storeOf count ss (now (levels .entry)))
-        → Moves r (stores ss (now (levels .entry)) path) (roundFrom N count i j ss (now (levels .entry))))
+        ((ss path : List ℕ) → Moves r (stores ss (now (levels .entry)) path)
+        (ic3.round rounds N (N - i) i (storeOf count ss (now (levels .entry)))))
         ⌝ }
 {
-    let mut level = i;
-    let mut from = j;
-    while level < N {
-        let k = next_at(levels, count, from, level);
-        if k < count {
-            return Move::Go(Config {
-                N,
-                count,
-                phase: Phase::Raise(level, k),
-            });
-        }
-        level += 1;
-        from = 0;
+    if i == N {
+        return judge(levels, N, count);
+    }
+    let first = next_at(levels, count, 0, i);
+    if first < count {
+        return Move::Go(Config {
+            N,
+            count,
+            phase: Phase::Raise(i, first),
+        });
+    }
+    judge(levels, N, count)
+}
+
+// Step 4 at level i from entry j on. Where no entry is left to be tested, it goes on if one of those before j still sits there, and else step 5 decides.
+pub(super) fn tested(levels: &[u32], N: u32, count: usize, i: u32, j: usize) -> Move
+    requires { ⌜ Tests (now levels) N count i j ⌝ }
+    ensures { λ r. ⌜
+        ((ss path : List ℕ) → Tidy (storeOf count ss (now (levels .entry)))
+        → Moves r (stores ss (now (levels .entry)) path) (testedFrom N count i j ss (now (levels .entry))))
+        ⌝ }
+{
+    let next = next_at(levels, count, j, i);
+    if next < count {
+        return Move::Go(Config {
+            N,
+            count,
+            phase: Phase::Raise(i, next),
+        });
+    }
+    if 0 < last_at(levels, j, i) {
+        return round(levels, N, count, i + 1);
     }
     judge(levels, N, count)
 }

@@ -4,7 +4,7 @@
 // refused.
 ghost use Prim.Native.Nat.{_≤_};
 ghost use lib.ListN.{length};
-ghost use Rattle.search.specs.Contracts.{Holds, Walks, Judges, FirstAt, KeptAs, LeastGap, FrontOf};
+ghost use Rattle.search.specs.Contracts.{Holds, Walks, Judges, FirstAt, LastAt, KeptAs, LeastGap, FrontOf};
 
 // The number stored after a state got its level, or that there was no room.
 pub(super) enum Kept {
@@ -56,6 +56,22 @@ pub(super) fn next_at(levels: &[u32], count: usize, j: usize, i: u32) -> usize
             return k;
         }
         k += 1;
+    }
+    k
+}
+
+// One more than the index of the last entry before j that sits at level i exactly, or 0. Of those that a round has tested the last is the likeliest to
+// sit there still.
+pub(super) fn last_at(levels: &[u32], j: usize, i: u32) -> usize
+    requires { ⌜ j ≤ length (now levels) ⌝ }
+    ensures { λ r. ⌜ LastAt (now (levels .entry)) j i r ⌝ }
+{
+    let mut k = j;
+    while 0 < k {
+        if levels[k - 1] == i {
+            return k;
+        }
+        k -= 1;
     }
     k
 }

@@ -23,6 +23,7 @@ use super::react::blocked;
 use super::react::deeper;
 use super::react::found;
 use super::react::round;
+use super::react::tested;
 use super::react::wide;
 
 // How a search ended, and the questions asked.
@@ -91,7 +92,7 @@ fn look(
     let answer = bad_state(n, start, bad, states, levels, count, N);
     match answer {
         question::Answer::State(s) => found(path, N, count, s),
-        question::Answer::Nothing => round(levels, N + 1, count, 1, 0),
+        question::Answer::Nothing => round(levels, N + 1, count, 1),
     }
 }
 
@@ -149,7 +150,7 @@ fn raise(
             levels[j] = i + 1;
         }
     }
-    round(levels, N, count, i, j + 1)
+    tested(levels, N, count, i, j + 1)
 }
 
 // One question, asked and taken in.

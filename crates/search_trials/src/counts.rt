@@ -9,7 +9,7 @@ pub const NEITHER: u64 = 2;
 
 // What is counted, by its place: systems by their bits, less 1, and by the kind of their steps; systems with something special; what was said; sums; how
 // the calls ended; a digest of all calls in turn; and what is not as the walk says or as it must be.
-pub const PLACES: usize = 46;
+pub const PLACES: usize = 49;
 
 const KINDS: usize = 10;
 
@@ -31,48 +31,55 @@ const DOOMED: usize = 27;
 
 const QUESTIONS: usize = 28;
 
-pub const ROOMS: usize = 29;
+const FULL: usize = 29;
 
-const LONGEST: usize = 30;
+const FEWER: usize = 30;
 
-const CALLS: usize = 31;
+pub const ROOMS: usize = 31;
 
-const ANSWERED: usize = 32;
+const LONGEST: usize = 32;
 
-const SPENT: usize = 33;
+const CALLS: usize = 33;
 
-const NO_ROOM: usize = 34;
+const ANSWERED: usize = 34;
 
-const WITHOUT: usize = 35;
+const SPENT: usize = 35;
 
-const DIGEST: usize = 36;
+const NO_ROOM: usize = 36;
 
-const GAVE_UP: usize = 37;
+const WITHOUT: usize = 37;
 
-const VERDICT: usize = 38;
+const DIGEST: usize = 38;
 
-const SHORTEST: usize = 39;
+const GAVE_UP: usize = 39;
 
-const TOO_MANY: usize = 40;
+const VERDICT: usize = 40;
 
-const CHECK: usize = 41;
+const SHORTEST: usize = 41;
 
-const WALK: usize = 42;
+const TOO_MANY: usize = 42;
 
-const NOT_ZERO: usize = 43;
+const NOT_FULL: usize = 43;
 
-const OTHER: usize = 44;
+const CHECK: usize = 44;
 
-const NUMBER: usize = 45;
+const WALK: usize = 45;
+
+const NOT_ZERO: usize = 46;
+
+const OTHER: usize = 47;
+
+const NUMBER: usize = 48;
 
 // What the walk knows of a system: how many states are no start state and lead to a bad one, the fewest steps from a start state to a bad one, and
-// how many states are start states, bad, and without a next state.
+// how many states are start states, bad, and without a next state; and, told from outside, the questions that a search with full rounds asks.
 pub struct Known {
     pub m: usize,
     pub steps: u32,
     pub starts: usize,
     pub bads: usize,
     pub ends: usize,
+    pub full: u32,
 }
 
 // What a call did, and whether the evidence check and the walk accept its evidence and all else that was lent is zero.
@@ -132,11 +139,21 @@ fn enter_first(counts: [u64; PLACES], k: Known, seen: Seen) -> [u64; PLACES] {
     let c = add(counts, QUESTIONS, seen.questions as u64);
     let c = count(c, ANSWERED, seen.number == 0);
     let c = count(c, TOO_MANY, most(k.m) < seen.questions);
+    let c = enter_full(c, k.full, seen);
     if k.starts != 0 {
         return enter_verdict(c, k, seen);
     }
     let right = (seen.number == 14) & (seen.said == NEITHER) & (seen.questions == 1);
     count(c, VERDICT, !right)
+}
+
+// Its questions beside those of a search with full rounds: fewer only if it is safe, and never more.
+fn enter_full(counts: [u64; PLACES], full: u32, seen: Seen) -> [u64; PLACES] {
+    let fewer = seen.questions < full;
+    let c = add(counts, FULL, full as u64);
+    let c = count(c, FEWER, fewer);
+    let right = (seen.questions == full) | fewer & (seen.said == SAFE);
+    count(c, NOT_FULL, !right)
 }
 
 // The verdict of the first call of a system with a start state.
@@ -262,6 +279,8 @@ pub fn write(counts: &[u64; PLACES]) {
         states in paths          \
         sum of m                 \
         sum of questions         \
+        sum with full rounds     \
+        fewer than with those    \
         sum of rooms used        \
         longest path             \
         calls                    \
@@ -274,6 +293,7 @@ pub fn write(counts: &[u64; PLACES]) {
         verdict differs          \
         path length differs      \
         too many questions       \
+        not as with full rounds  \
         evidence check refuses   \
         walk refuses             \
         store not zero           \

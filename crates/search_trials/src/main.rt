@@ -1,5 +1,6 @@
 // Searches of small random systems, compared with a walk over all states, which shares no code with the search or the question. The file `stdout`
-// is from `expected.py`, which makes the same systems, walks, and searches once more as the scope says.
+// is from `expected.py`, which makes the same systems, walks, and searches once more as the scope says; and so is `stdin`, the questions that a search
+// with full rounds asks of each system.
 
 mod counts;
 mod systems;
@@ -191,10 +192,24 @@ fn know(k: counts::Known, start: bool, bad: bool, on: bool, doom: u32) -> counts
         starts: plus(k.starts, start),
         bads: plus(k.bads, bad),
         ends: plus(k.ends, !on),
+        full: k.full,
     }
 }
 
-fn survey(n: u32, table: &[bool]) -> counts::Known {
+// The questions of the next system with full rounds: four bytes of standard input, the high one first. 0 where there are none left.
+fn next_full() -> u32 {
+    let mut bytes = [0u8; 4];
+    if io::read_full(0, &mut bytes) < 4 {
+        return 0;
+    }
+    wide(bytes[0]) << 24 | wide(bytes[1]) << 16 | wide(bytes[2]) << 8 | wide(bytes[3])
+}
+
+fn wide(x: u8) -> u32 {
+    x as u32
+}
+
+fn survey(n: u32, table: &[bool], full: u32) -> counts::Known {
     let mut doom = [0u32; 1024];
     small_systems::distances(n, table, true, &mut doom);
     let end = tables::size(n) % 1025;
@@ -204,6 +219,7 @@ fn survey(n: u32, table: &[bool]) -> counts::Known {
         starts: 0,
         bads: 0,
         ends: 0,
+        full,
     };
     let mut s = 0;
     while s < end {
@@ -287,7 +303,7 @@ fn trial(
     bad: &[u64],
 ) -> [u64; counts::PLACES] {
     tables::table(n, start, step, bad, table);
-    let k = survey(n, table);
+    let k = survey(n, table, next_full());
     let c = counts::enter_system(counts, n, kind, k);
     calls(c, n, start, step, bad, table, k)
 }

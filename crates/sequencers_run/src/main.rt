@@ -209,10 +209,10 @@ fn lend_room(name: &[u8], start: &[u64], step: &[u64], room: usize, allowance: u
     lend(2, start, step, &bad, room, room, most, allowance);
 }
 
-fn lend_late(room: usize, allowance: u32) {
+// Ring with other steps.
+fn lend_steps(name: &[u8], step: &[u64], room: usize, allowance: u32) {
     let start = ZERO;
-    let step = LATE;
-    lend_room(b"Late", &start, &step, room, allowance);
+    lend_room(name, &start, step, room, allowance);
 }
 
 // Ring without a start state.
@@ -248,18 +248,27 @@ fn lend_all_bad(name: &[u8]) {
 
 fn sequencers() {
     let ring = RING;
-    lend_list(b"Ring", STEP, &ring);
-    lend_late(ROOM, ENOUGH);
-    lend_late(2, ENOUGH);
-    lend_late(1, ENOUGH);
-    lend_late(ROOM, 17);
-    lend_late(ROOM, 16);
-    lend_late(ROOM, 0);
+    let late = LATE;
+    lend_steps(b"Ring", &ring, ROOM, ENOUGH);
+    lend_steps(b"Late", &late, ROOM, ENOUGH);
+    lend_steps(b"Late", &late, 2, ENOUGH);
+    lend_steps(b"Late", &late, 1, ENOUGH);
+    lend_steps(b"Late", &late, ROOM, 17);
+    lend_steps(b"Late", &late, ROOM, 16);
+    lend_steps(b"Late", &late, ROOM, 0);
+}
+
+// The last question is that of the last round, which stops behind it.
+fn chains() {
+    let chain = CHAIN;
+    lend_steps(b"Chain", &chain, ROOM, ENOUGH);
+    lend_steps(b"Chain", &chain, 3, ENOUGH);
+    lend_steps(b"Chain", &chain, 2, ENOUGH);
+    lend_steps(b"Chain", &chain, ROOM, 21);
+    lend_steps(b"Chain", &chain, ROOM, 20);
 }
 
 fn other_lists() {
-    let chain = CHAIN;
-    lend_list(b"Chain", STEP, &chain);
     lend_all_bad(b"Ring, start and bad empty");
     lend_clause(b"Ring, bad false", BAD, 0, 0);
     lend_nowhere(ROOM, ENOUGH);
@@ -365,6 +374,7 @@ fn order() {
 
 fn main() {
     sequencers();
+    chains();
     other_lists();
     sizes();
     odd_counts();

@@ -5,10 +5,10 @@ use Rattle.search_trials.proofs.survey.Statement.{statement}
 use Rattle.search_trials.proofs.survey.Tie as tie
 
 abbrev Inv-loop : tie.InvT-loop
-Inv-loop n table doom end k₀ s₀ k s = Unit {0}
+Inv-loop n table full doom end k₀ s₀ k s = Unit {0}
 
 abbrev μ-loop : tie.MeasureT-loop
-μ-loop n table doom end k₀ s₀ k s = end - s
+μ-loop n table full doom end k₀ s₀ k s = end - s
 
 pub survey-spec : {M : Type 1} → statement M
 survey-spec =

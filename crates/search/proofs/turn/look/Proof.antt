@@ -1,4 +1,4 @@
--- `search::turn::look` meets its contract: the answer is taken in by `found`, or, with none, by a round from the first entry of level 1 on.
+-- `search::turn::look` meets its contract: the answer is taken in by `found`, or, with none, by a round from level 1 on.
 -- Assumes nothing.
 use native.Mathlib.Omega.{arith}
 use borrow.Author.Needs.{needs}
@@ -17,11 +17,7 @@ entry q = q .before .before .before .before .before .before
 round-requires : tie.Need-round-requires
 round-requires c κs =
     let h = ready-asks (entry (c .before .before) .pre) .holds in
-    record {
-      walks = record { within = rw (h .same) (h .within); from = omega arith };
-      above = omega arith;
-      below = omega arith;
-    }
+    record { within = rw (h .same) (h .within); above = omega arith; below = omega arith }
 
 returns : tie.Need-returns
 returns c =
@@ -35,7 +31,7 @@ returns-2 c =
     let q = c .before .before .before in
     let w = entry q .pre in
     let e = rw (c .before .enum-told .given .1) at (q .bad-state .ensures) in
-    λ step. moves-to (look-none _ _ _ _ (ready-asks w) _ _ e) (c .round .ensures _ _ (w .shape .tidy))
+    λ step. moves-to (look-none _ _ _ _ (ready-asks w) _ _ e) (c .round .ensures _ _)
 
 pub look-spec : {M : Type 1} → statement M
 look-spec =

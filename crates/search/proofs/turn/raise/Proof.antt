@@ -19,8 +19,8 @@ same m =
     let a = m .before .before .before .before .before .before .before .before .args in
     ⊎-elim (λ w. ap length (w .2)) (λ w. ap length (w .2) ∙ length-set (a .levels .now) (a .j) (a .i + 1)) (m .match .came)
 
-round-requires : tie.Need-round-requires
-round-requires c κs =
+tested-requires : tie.Need-tested-requires
+tested-requires c κs =
     let s = c .before .before .before .before .before .before .before .before .before in
     record {
       walks = record { within = rw (same (c .before)) (omega arith); from = omega arith };
@@ -40,9 +40,9 @@ returns c =
     λ bad path. let y = systemOf (a .n) (a .start .now) (a .step .now) bad in
     ⊎-elim
     (λ w. moves-to (rw (w .2) (raise-not y _ _ _ _ _ _ (s .pre) _ _ (rw (w .1 .given .1) at (o .ensures))))
-    (c .round .ensures _ path (rw (w .2) (s .pre .asks .tidy))))
+    (c .tested .ensures _ path (rw (w .2) (s .pre .asks .tidy))))
     (λ w. moves-to (rw (w .2) (raise-up y _ _ _ _ _ _ (s .pre) _ (rw (w .1 .given .1) at (o .ensures))))
-    (c .round .ensures _ path (rw (w .2) (raised-tidy (s .pre)))))
+    (c .tested .ensures _ path (rw (w .2) (raised-tidy (s .pre)))))
     (m .match .came)
 
 pub raise-spec : {M : Type 1} → statement M
@@ -58,6 +58,6 @@ raise-spec =
     (λ c. search needs)
     (λ c. search needs)
     (λ c. search needs)
-    round-requires
+    tested-requires
     same-length
     returns)

@@ -8,7 +8,7 @@ abbrev Inv-loop : tie.InvT-loop
 Inv-loop counts names j₀ t6 j = Unit {0}
 
 abbrev μ-loop : tie.MeasureT-loop
-μ-loop counts names j₀ t6 j = 46 - j
+μ-loop counts names j₀ t6 j = 49 - j
 
 pub lines-spec : {M : Type 1} → statement M
 lines-spec =
