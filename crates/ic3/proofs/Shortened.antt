@@ -207,14 +207,14 @@ react-fills room N st ph o w t = pick (react shortened room N st ph o) (react-fo
 
 -- ---- the two searches
 module _ (M : Model) (room : ℕ) where
-  from-differ : (left : ℕ) (c : Config) (q : ℕ) → Shape room c → Filled (c .store) (c .phase)
+  from-differ : (left : ℕ) (c : Config) (q : ℕ) → Comes M room (at 0 [] look) c → Shape room c → Filled (c .store) (c .phase)
       → Differ M room (left + q) (searchFrom full left M room c q) (searchFrom shortened left M room c q)
   unfolding searchFrom next
-  from-differ zero c q w f = nowhere refl
-  from-differ (suc left) c q w f =
-      pick (next full M room c) (next shortened M room c) (next-keeps-shape room full M c w)
+  from-differ zero c q k w f = nowhere refl
+  from-differ (suc left) c q k w f =
+      pick (next full M room c) (next shortened M room c) refl (next-keeps-shape room full M c w)
       (react-follows room (c .N) (c .store) (c .phase) (least (M .size) (wanted M (c .N) (c .store) (c .phase))) (w .placed) f)
-      (λ d x g. from-differ left d (suc q) x g)
+      (λ d z x g. from-differ left d (suc q) (onward k z) x g)
     where
       whole : Move → Ending
       whole m = elim m [ go d ↦ searchFrom full left M room d (suc q) | stop v ↦ record { verdict = v; questions = suc q } ]
@@ -222,38 +222,39 @@ module _ (M : Model) (room : ℕ) where
       short : Move → Ending
       short m = elim m [ go d ↦ searchFrom shortened left M room d (suc q) | stop v ↦ record { verdict = v; questions = suc q } ]
 
-      alike : (m : Move) → Shaped room m → Filling m
-          → ((d : Config) → Shape room d → Filled (d .store) (d .phase)
+      alike : (m : Move) → next full M room c ≡ m → Shaped room m → Filling m
+          → ((d : Config) → next full M room c ≡ go d → Shape room d → Filled (d .store) (d .phase)
           → Differ M room (left + suc q) (searchFrom full left M room d (suc q)) (searchFrom shortened left M room d (suc q)))
           → Differ M room (suc left + q) (whole m) (short m)
-      alike (go d) x g rest = let z : suc left + q ≡ left + suc q = omega arith in rw z (rest d x g)
-      alike (stop v) x g rest = nowhere refl
+      alike (go d) z x g rest = let n : suc left + q ≡ left + suc q = omega arith in rw n (rest d z x g)
+      alike (stop v) z x g rest = nowhere refl
 
-      before : (m : Move) (ev : List ℕ) (N : ℕ) → Shaped room m → Behind ev N m → Differ M room (suc left + q) (whole m) (short (stop (safe ev)))
-      before (go d) ev N x b =
+      before : (m : Move) (ev : List ℕ) (N : ℕ) → next full M room c ≡ m → Shaped room m → Behind ev N m → Differ M room (suc left + q) (whole m) (short (stop (safe ev)))
+      before (go d) ev N z x b =
           at-the-end (record {
             evidence = ev;
             says = refl;
             place = d;
+            reached = onward k z;
             last = behind-last M room ev d x (rw (b .0) (b .1));
             left = left;
             rest = refl;
             allowed = omega arith;
           })
-      before (stop v) ev N x b = nowhere (rw b)
+      before (stop v) ev N z x b = nowhere (rw b)
 
-      pick : (m m' : Move) → Shaped room m → Follows m m'
-          → ((d : Config) → Shape room d → Filled (d .store) (d .phase)
+      pick : (m m' : Move) → next full M room c ≡ m → Shaped room m → Follows m m'
+          → ((d : Config) → next full M room c ≡ go d → Shape room d → Filled (d .store) (d .phase)
           → Differ M room (left + suc q) (searchFrom full left M room d (suc q)) (searchFrom shortened left M room d (suc q)))
           → Differ M room (suc left + q) (whole m) (short m')
-      pick m m' x (same e g) rest = rw e (alike m' (rw e at x) g rest)
-      pick m m' x (ahead ev N e b) rest = rw e (before m ev N x b)
+      pick m m' z x (same e g) rest = rw e (alike m' (z ∙ e) (rw e at x) g rest)
+      pick m m' z x (ahead ev N e b) rest = rw e (before m ev N z x b)
 
   begun-differ : (left : ℕ) (o : Option ℕ) → Differ M room (suc left) (begun full left M room o) (begun shortened left M room o)
   unfolding begun
   begun-differ left none = nowhere refl
   begun-differ left (some s) =
-      let z : suc left ≡ left + 1 = omega arith in rw z (from-differ left (at 0 [] look) 1 (opening-shape room) tt)
+      let z : suc left ≡ left + 1 = omega arith in rw z (from-differ left (at 0 [] look) 1 here (opening-shape room) tt)
 
   -- THE DIFFERENCE
   pub rounds-differ : (allowance : ℕ) → Differ M room allowance (searched full M room allowance) (searched shortened M room allowance)

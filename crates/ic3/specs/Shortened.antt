@@ -1,10 +1,10 @@
 -- Beyond the demands: what shortened rounds change. With the same room and allowance the full search and the shortened one ask the same questions
 -- and end alike, but for the last round of a safe run, which the shortened one need not go through.
 use Prim.Native.Nat.{ℕ, _+_, _≤_}
-use mathlib.Core.List.{List}
+use mathlib.Core.List.{List, []}
 use mathlib.Core.Path.{_≡_}
 use Rattle.ic3.specs.Model.{Model}
-use Rattle.ic3.specs.Search.{Phase, look, settle, raise, Config, Verdict, safe, go, stop, full, next, Ending, searchFrom}
+use Rattle.ic3.specs.Search.{Phase, look, settle, raise, Config, at, Verdict, safe, go, stop, full, next, Ending, searchFrom}
 use Rattle.ic3.specs.Theorems.{Answered}
 
 -- from c on the full search comes to a configuration
@@ -24,11 +24,13 @@ pub record LastRound (M : Model) (room : ℕ) (evidence : List ℕ) (c : Config)
   pub tests : (d : Config) → Comes M room c d → Tests (d .phase)
   pub ends : (d : Config) (v : Verdict) → Comes M room c d → next full M room d ≡ stop v → v ≡ safe evidence
 
--- The shortened search has said safe where the full one has yet to go through the rest of its last round.
+-- The shortened search has said safe where the full one, at a configuration that it comes to from the beginning, has yet to go through the rest of its
+-- last round.
 pub record EndsSooner (M : Model) (room allowance : ℕ) (whole short : Ending) : Type 0 where
   pub evidence : List ℕ
   pub says : short .verdict ≡ safe evidence
   pub place : Config
+  pub reached : Comes M room (at 0 [] look) place
   pub last : LastRound M room evidence place
   pub left : ℕ
   pub rest : whole ≡ searchFrom full left M room place (short .questions)
