@@ -1,5 +1,5 @@
--- What `settle` and `attempt` answer, from the answers of the calls that they make: with one bit more settled, by force or by trial, and with no
--- bit open. P is the condition. Assumes nothing.
+-- What is said of settled bits, from what is known with one bit more settled, by force or by trial, and with no bit open. P is the condition. Assumes
+-- nothing.
 use Prim.Native.Nat.{ℕ, _-_, _^_, _<_}
 use mathlib.Core.Bool.{Bool, true, false}
 use mathlib.Core.Logic.{inl, inr}
@@ -13,9 +13,9 @@ use Rattle.masks.proofs.Operations.{full}
 use Rattle.look.specs.Reason.{Agree, Open, Reason, Forces, more, Setting}
 use Rattle.look.proofs.Agreement.{agree-at, among-at, among-by, among-le}
 use Rattle.look.proofs.Values.{Choice}
-use Rattle.question.specs.Reason.{Sound, Passing, openOf, resolved}
+use Rattle.question.specs.Reason.{Sound, Passing, openOf}
 use Rattle.question.proofs.More.{agrees-fewer}
-use Rattle.question.proofs.Resolution.{without, reason-without, resolved-reason}
+use Rattle.question.proofs.Resolution.{without, reason-without}
 use Rattle.question.proofs.Pairs.{Same}
 
 -- a bit that is not settled is 0 among the values
@@ -44,11 +44,11 @@ module _ {width : ℕ} {s : Setting} {b : ℕ} (ok : Sound width s) (O : Open wi
   pub zero-enough : (P : ℕ → Bool) (a : ℕ) → Reason P (more s b 0) a → bitAnd a b ≡ 0 → Reason P s a
   zero-enough P a r e = reason-without at-zero P a (without at-zero P a e) r
 
-  -- both values fail
-  pub both-fail : (P : ℕ → Bool) (y z : ℕ) → Reason P (more s b b) y → Reason P (more s b 0) z → Reason P s (resolved width y z b)
-  both-fail P y z ry rz =
+  -- a bit whose 0 is refuted is forced to 1
+  pub refuted : {P : ℕ → Bool} {a : ℕ} → Reason P (more s b 0) a → Forces width P s a b b
+  refuted r =
       let e : b - b ≡ 0 = omega arith in
-      resolved-reason ok at-one P y z ry (rw e rz)
+      record { free = O; either = inr refl; fails = rw e r }
 
 -- not all bits are settled: one is open
 pub some-open : (width : ℕ) (s : Setting) → s .bits < 2 ^ width - 1 → 0 < openOf width (2 ^ width - 1) s

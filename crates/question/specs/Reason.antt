@@ -1,11 +1,13 @@
 -- What the engine's laws speak of beyond what a look finds: of pairs of any width, as numbers that are read bit by bit. P is the condition.
-use Prim.Native.Nat.{ℕ, _+_, _-_, _^_, _≤_, _<_}
+use Prim.Native.Nat.{ℕ, zero, suc, _+_, _-_, _*_, _^_, _≤_, _<_}
 use mathlib.Core.Bool.{Bool, true, false}
+use mathlib.Core.List.{List}
 use mathlib.Core.Logic.{_⊎_}
 use mathlib.Core.Path.{_≡_}
 use lib.Bits.{bitAnd, bitOr}
 use lib.Count.{ones}
 use lib.Dec.{eqb}
+use lib.ListN.{length, getD}
 use Rattle.masks.specs.Bit.{bit}
 use Rattle.look.specs.Reason.{Agree, Among, Setting, Open}
 
@@ -28,6 +30,17 @@ pub record Falls (width : ℕ) (s r : Setting) : Type 0 where
 -- the reason that is left when bit b is given up: with its one value `x` failed, and with its other value `y`
 unfoldable pub resolved : ℕ → ℕ → ℕ → ℕ → ℕ
 resolved width x y b = elim (eqb (bitAnd x b) 0) [ true ↦ x | false ↦ bitAnd (bitOr x y) (2 ^ width - 1 - b) ]
+
+-- ---- a trail
+-- An entry is two numbers: the reason for which a forced bit fails at its other value, and the bit.
+-- the reason that is left when the bits of the first k entries are given up, from the last back
+unfoldable pub resolvedAlong : ℕ → List ℕ → ℕ → ℕ → ℕ
+resolvedAlong width trail zero reason = reason
+resolvedAlong width trail (suc k) reason = resolvedAlong width trail k (resolved width reason (getD trail (2 * k) 0) (getD trail (2 * k + 1) 0))
+
+-- long enough for every open bit
+abbrev pub LongEnough : ℕ → Setting → List ℕ → Type 0
+LongEnough width s trail = 2 * (width - ones (s .bits)) ≤ length trail
 
 -- ---- what passes, and the walk to the least front
 -- the pair w agrees on the settled bits and passes

@@ -4,6 +4,8 @@
 
 // engine is engine.rt: some pair, or nothing and why.
 mod engine;
+// trail is trail.rt: forced bits and their reasons.
+mod trail;
 
 use engine::Found;
 use engine::settle;
@@ -18,6 +20,9 @@ ghost use Rattle.look.specs.Condition.{width, lent, fulfils};
 ghost use Rattle.question.specs.Question.{answered, badIn, stepIn};
 ghost use Rattle.question.specs.Asked.{askedIn, asked, Block};
 ghost use Rattle.question.specs.Engine.{Valid, GoesOn, Walks, LeastFront};
+
+// Two numbers for each of the 64 positions, since a bit is forced once.
+const TRAIL: usize = 128;
 
 // A state, or that none exists.
 pub enum Answer {
@@ -40,6 +45,7 @@ fn descend(
     i: u32,
     front: u64,
     d: Descent,
+    trail: &mut [u64; TRAIL],
 ) -> Descent
     requires { ⌜ GoesOn (fulfils (lent low whole states levels i)) front d ⌝ }
     ensures { λ r. ⌜ Walks (fulfils (lent (low .entry) (whole .entry) (states .entry) (levels .entry) i)) front d r ⌝ }
@@ -53,7 +59,7 @@ fn descend(
             pair,
         };
     }
-    let f = settle(low, whole, states, levels, i, zero, 0);
+    let f = settle(low, whole, states, levels, i, zero, 0, trail);
     match f {
         Found::Pair(lower) => Descent {
             settled: zero,
@@ -75,17 +81,18 @@ fn least(
     i: u32,
     front: u64,
     s: Settled,
+    trail: &mut [u64; TRAIL],
 ) -> Found
     requires { ⌜ Valid s ⌝ }
     ensures { λ r. ⌜ LeastFront (fulfils (lent (low .entry) (whole .entry) (states .entry) (levels .entry) i)) front s r ⌝ }
 {
-    let f = settle(low, whole, states, levels, i, s, 0);
+    let f = settle(low, whole, states, levels, i, s, 0, trail);
     let Found::Pair(pair) = f else {
         return f;
     };
     let mut d = Descent { settled: s, pair };
     while front & !d.settled.bits != 0 {
-        d = descend(low, whole, states, levels, i, front, d);
+        d = descend(low, whole, states, levels, i, front, d, trail);
     }
     Found::Pair(d.pair)
 }
@@ -129,6 +136,7 @@ fn ask_block(
     later: u64,
     at: u64,
     k: u32,
+    trail: &mut [u64; TRAIL],
 ) -> Answer
     requires { ⌜ Block 32 at k ⌝ }
     ensures { λ r. ⌜ answered r ≡ askedIn at (at + 2 ^ k) (lent (low .entry) (whole .entry) (states .entry) (levels .entry) i) later ⌝ }
@@ -137,7 +145,7 @@ fn ask_block(
         bits: beyond(k),
         values: at + HALF * (later % HALF),
     };
-    let f = least(low, whole, states, levels, i, STATE, s);
+    let f = least(low, whole, states, levels, i, STATE, s, trail);
     match f {
         Found::Pair(pair) => Answer::State(pair % HALF),
         Found::Nothing(_) => Answer::Nothing,
@@ -158,11 +166,12 @@ fn ask(
 ) -> Answer
     ensures { λ r. ⌜ answered r ≡ asked n (lent (low .entry) (whole .entry) (states .entry) (levels .entry) i) later from ⌝ }
 {
+    let mut trail = [0; TRAIL];
     let end = size(n);
     let mut at = from;
     while at < end {
         let k = open_bits(n, at);
-        let answer = ask_block(low, whole, states, levels, i, later, at, k);
+        let answer = ask_block(low, whole, states, levels, i, later, at, k, &mut trail);
         let Answer::Nothing = answer else {
             return answer;
         };

@@ -11,10 +11,10 @@ use Rattle.question.proofs.ask.Statement.{statement}
 use Rattle.question.proofs.ask.Tie as tie
 
 abbrev Inv-loop : tie.InvT-loop
-Inv-loop n low whole states levels i later from end at₀ at = (from ≤ at) × Free from at (passes (condition low whole states levels i) later)
+Inv-loop n low whole states levels i later from trail₀ end at₀ trail at = (from ≤ at) × Free from at (passes (condition low whole states levels i) later)
 
 abbrev μ-loop : tie.MeasureT-loop
-μ-loop n low whole states levels i later from end at₀ at = end - at
+μ-loop n low whole states levels i later from trail₀ end at₀ trail at = end - at
 
 loop-holds : tie.Need-loop-holds Inv-loop μ-loop
 loop-holds c = (omega arith, λ s g l. absurd (omega arith))
@@ -23,31 +23,33 @@ open-bits-requires : tie.Need-open-bits-requires Inv-loop μ-loop
 open-bits-requires c κs = rw (c .before .before .size .ensures) at (c .loop-test .taken)
 
 ask-block-requires : tie.Need-ask-block-requires Inv-loop μ-loop
-ask-block-requires c κs = wider (c .open-bits .ensures)
+ask-block-requires c κs = wider (c .before .open-bits .ensures)
 
 returns : tie.Need-returns Inv-loop μ-loop
 returns c =
     let a = c .before .before in
-    let l = a .before .before .before in
+    let o = a .before .before in
+    let l = o .before .before in
     rw (c .enum-told2 .given .1)
-    (asked-here _ _ (l .loop .inv .1) (a .before .open-bits .ensures) (l .loop .inv .0)
+    (asked-here _ _ (l .loop .inv .1) (o .open-bits .ensures) (l .loop .inv .0)
     (rw (c .enum-told2 .given .1) at (a .ask-block .ensures)))
 
 add-at : tie.Need-add-at Inv-loop μ-loop
 add-at c =
-    let b = c .before .before .before .before .open-bits .ensures in
+    let b = c .before .before .before .before .before .open-bits .ensures in
     omega (arith, c .size2 .ensures, block-length b, wider b .ends)
 
 loop-less : tie.Need-loop-less Inv-loop μ-loop
 loop-less c =
-    let o = c .before .before .before .before in
+    let o = c .before .before .before .before .before in
     omega (arith, o .before .loop-test .taken, c .size2 .ensures, pow-pos (min (o .open-bits .result) 32))
 
 loop-again : tie.Need-loop-again Inv-loop μ-loop
 loop-again c =
     let a = c .before .before .before in
-    let l = a .before .before .before in
-    rw (c .size2 .ensures, block-length (a .before .open-bits .ensures))
+    let o = a .before .before in
+    let l = o .before .before in
+    rw (c .size2 .ensures, block-length (o .open-bits .ensures))
     (omega (arith, l .loop .inv .0), asked-on _ _ (l .loop .inv .1) _ (rw (c .before .enum-told .given .1) at (a .ask-block .ensures)))
 
 returns-2 : tie.Need-returns-2 Inv-loop μ-loop

@@ -16,14 +16,15 @@ returns c =
 
 settle-requires : tie.Need-settle-requires
 settle-requires c κs =
-    let picked = c .before .before in
-    let D = picked .before .before .before .before .before .before .pre .stands in
-    rw (c .before .settle-at .ensures) (more-sound (at-zero (D .sound) (picked .top-open .ensures .free)) (D .sound))
+    let zero = c .before .before in
+    let D = zero .before .before .before .before .before .before .before .pre .stands in
+    rw (zero .settle-at .ensures)
+    record { valid = more-sound (at-zero (D .sound) (zero .before .top-open .ensures .free)) (D .sound); long = search needs }
 
 returns-2 : tie.Need-returns-2
 returns-2 c =
     let tried = c .before .before .before in
-    let zero = tried .before .before in
+    let zero = tried .before .before .before in
     let D = zero .before .before .before .before .before .before .before .pre .stands in
     rw (zero .settle-at .ensures)
     (descends-zero D (zero .before .top-open .ensures) _
@@ -33,11 +34,11 @@ returns-3 : tie.Need-returns-3
 returns-3 c =
     let told = c .before in
     let tried = told .before .before in
-    let zero = tried .before .before in
+    let zero = tried .before .before .before in
     let D = zero .before .before .before .before .before .before .before .pre .stands in
     rw (c .settle-at2 .ensures)
     (descends-one D (zero .before .top-open .ensures) _
-    (rw (zero .settle-at .ensures, told .enum-told .given .1) at (tried .settle .ensures)) (tried .before .if1 .left))
+    (rw (zero .settle-at .ensures, told .enum-told .given .1) at (tried .settle .ensures)) (tried .before .before .if1 .left))
 
 pub descend-spec : {M : Type 1} → statement M
 descend-spec =

@@ -10,26 +10,30 @@ use Rattle.question.proofs.least.Statement.{statement}
 use Rattle.question.proofs.least.Tie as tie
 
 abbrev Inv-loop : tie.InvT-loop
-Inv-loop low whole states levels i front pair d₀ d =
+Inv-loop low whole states levels i front trail₀ pair d₀ trail d =
     Walked width (fulfils (condition low whole states levels i)) front (setting (d₀ .settled)) (setting (d .settled)) (d .pair)
 
 abbrev μ-loop : tie.MeasureT-loop
-μ-loop low whole states levels i front pair d₀ d = width - ones (d .settled .bits)
+μ-loop low whole states levels i front trail₀ pair d₀ trail d = width - ones (d .settled .bits)
+
+settle-requires : tie.Need-settle-requires Inv-loop μ-loop
+settle-requires c κs =
+    record { valid = c .before .before .before .before .before .pre; long = search needs }
 
 returns : tie.Need-returns Inv-loop μ-loop
 returns c = rw (c .enum-told .given .1) (rw (c .enum-told .given .1) at (c .before .before .settle .ensures))
 
 loop-holds : tie.Need-loop-holds Inv-loop μ-loop
 loop-holds c =
-    let s = c .before .before .before .before .before .before .before .before in
+    let s = c .before .before .before .before .before .before .before .before .before in
     walked-none width (fulfils _) _ (setting (s .args .s)) _ (s .pre) (rw (c .before .f .given .1) at (c .before .before .before .settle .ensures))
 
 loop-again : tie.Need-loop-again Inv-loop μ-loop
-loop-again c = walked-more (c .before .before .before .loop .inv) (c .descend .ensures)
+loop-again c = walked-more (c .before .before .before .before .loop .inv) (c .descend .ensures)
 
 returns-2 : tie.Need-returns-2 Inv-loop μ-loop
 returns-2 c =
-    let s = c .before .before .before .before .before .before .before .before .before .before .before in
+    let s = c .before .before .before .before .before .before .before .before .before .before .before .before in
     walked-all (c .before .before .loop .inv) (s .fits .front .fits) (c .if1 .left)
 
 pub least-spec : {M : Type 1} → statement M
@@ -38,7 +42,7 @@ least-spec =
     (tie.spec
     Inv-loop
     μ-loop
-    (λ c κs. search needs)
+    settle-requires
     (λ c. search needs)
     (λ c. search needs)
     returns

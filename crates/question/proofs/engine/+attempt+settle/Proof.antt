@@ -1,48 +1,65 @@
 -- `question::engine::settle` and `question::engine::attempt` meet their contracts. The measure is the number of open bits, doubled, and one more for
--- `settle`: each call settles a bit, but for that of `attempt` by `settle`. What is answered follows from the answers of the calls by the laws of
--- Solving: a forced bit and a tried bit are one bit more, a reason that has the bit is resolved, and with no bit open the pair itself is tested.
--- Assumes nothing.
-use Prim.Native.Nat.{ℕ, _+_, _-_, _*_, _<_}
-use mathlib.Core.Path.{sym, _∙_}
+-- `settle`: `attempt` settles a bit and calls `settle`, which calls `attempt` with no fewer bits settled than it was given. The loop's invariant is
+-- that the trail leads from the bits that were given to those that are settled, and its measure is the number of open bits. A turn goes one of four
+-- ways, and what it comes to is then treated as one: a forced bit is an entry more, and what fails is resolved along the trail. Assumes nothing.
+use Prim.Native.Nat.{ℕ, _+_, _-_, _*_, _≤_, _<_}
+use mathlib.Core.Bool.{Bool}
+use mathlib.Core.List.{List}
+use mathlib.Core.Logic.{⊎-elim}
+use mathlib.Core.Path.{_≡_, refl, _∙_}
+use native.Mathlib.Nat.{le-refl}
 use native.Mathlib.Omega.{arith}
 use borrow.Author.Needs.{needs}
 use borrow.Fn.Kinds.{In}
 use borrow.Fn.PlainCycle.{Measures, is, falls, and}
+use borrow.Rule.Slice.PartMut.{mid-len}
 use lib.Count.{ones}
-use Rattle.look.specs.Condition.{width, fulfils}
+use lib.ListN.{length, length-set}
+use Rattle.look.specs.Condition.{width, condition, lent, fulfils}
 use Rattle.look.specs.Look.{setting}
 use Rattle.look.proofs.Values.{Choice}
 use Rattle.look.proofs.forced.Reads as forced
-use Rattle.question.proofs.Pairs.{fulfils-same}
+use Rattle.question.specs.Reason.{LongEnough}
+use Rattle.question.specs.Engine.{Says}
+use Rattle.question.specs.declared.engine.Said.{Said}
 use Rattle.question.proofs.More.{more-sound, more-falls}
-use Rattle.question.proofs.Resolution.{resolved-reason}
-use Rattle.question.proofs.Solving.{more-passes, forced, at-zero, at-one, zero-enough, both-fail, some-open, full-pair, full-nothing}
+use Rattle.question.proofs.Solving.{more-passes, forced, at-zero, zero-enough, refuted, some-open}
+use Rattle.question.proofs.Along.{Led, led-none, led-few, led-within, put, led-lent, led-next, led-more}
 use Rattle.question.proofs.engine.attempt.Reads as attempt
 use Rattle.question.proofs.engine.settle.Reads as settle
 use Rattle.question.proofs.engine.settle.Kinds.{ps}
-use Rattle.question.proofs.engine.fulfilled.Reads as fulfilled
-use Rattle.question.proofs.engine.resolve.Reads as resolve
+use Rattle.question.proofs.engine.test.Reads as test
 use Rattle.question.proofs.engine.settle_at.Reads as settle-at
 use Rattle.question.proofs.engine.top_open.Reads as top-open
+use Rattle.question.proofs.trail.note.Reads as note
+use Rattle.question.proofs.trail.resolve_along.Reads as resolve-along
 use Rattle.question.proofs.engine.+attempt+settle.Lts-attempt as attempt-lts
 use Rattle.question.proofs.engine.+attempt+settle.Lts-settle as settle-lts
 use Rattle.question.proofs.engine.+attempt+settle.{statement}
 use Rattle.question.proofs.engine.+attempt+settle.Tie.{close}
 
 -- both functions have the same parameters, `ps`
-abbrev μ-attempt : Measures 4 ps ℕ
+abbrev μ-attempt : Measures 5 ps ℕ
 μ-attempt κs a = 2 * (width - ones (a .1 .1 .1 .1 .1 .0 .bits))
 
-abbrev μ-settle : Measures 4 ps ℕ
+abbrev μ-settle : Measures 5 ps ℕ
 μ-settle κs a = μ-attempt κs a + 1
+
+-- what the loop keeps
+abbrev settle-Inv-loop : settle-lts.InvT-loop
+settle-Inv-loop low whole states levels i at trail₀ r₀ next₀ noted₀ trail r next noted =
+    Led width (fulfils (condition low whole states levels i)) (setting r₀) trail noted (setting r) × (length trail ≡ length trail₀)
+
+abbrev settle-μ-loop : settle-lts.MeasureT-loop
+settle-μ-loop low whole states levels i at trail₀ r₀ next₀ noted₀ trail r next noted = width - ones (r .bits)
 
 module _ (t : ℕ) where
   -- what a function with the measure μ is given at t, and what a call of it asks below t
-  abbrev at : Measures 4 ps ℕ → In 4 ps → In 4 ps
-  at μ pre = and 4 ps (is 4 ps μ t) pre
+  abbrev at : Measures 5 ps ℕ → In 5 ps → In 5 ps
+  at μ pre = and 5 ps (is 5 ps μ t) pre
 
-  abbrev below : Measures 4 ps ℕ → In 4 ps → In 4 ps
-  below μ pre = and 4 ps (falls 4 ps _<_ μ t) pre
+  abbrev below : Measures 5 ps ℕ → In 5 ps → In 5 ps
+  below μ pre = and 5 ps (falls 5 ps _<_ μ t) pre
 
   -- what the calls of each function ask and answer
   abbrev attempt-calls : attempt-lts.Claims
@@ -53,130 +70,212 @@ module _ (t : ℕ) where
     settle-at.Learnt,
     below μ-settle settle.Pre,
     settle.Post,
-    resolve.Asked,
-    resolve.Learnt,
   )
 
   abbrev settle-calls : settle-lts.Claims
   settle-calls = (
     forced.Asked,
     forced.Learnt,
-    settle-at.Asked,
-    settle-at.Learnt,
-    below μ-settle settle.Pre,
-    settle.Post,
-    resolve.Asked,
-    resolve.Learnt,
+    test.Asked,
+    test.Learnt,
     below μ-attempt attempt.Pre,
     attempt.Post,
-    fulfilled.Asked,
-    fulfilled.Learnt,
+    resolve-along.Asked,
+    resolve-along.Learnt,
+    note.Asked,
+    note.Learnt,
+    settle-at.Asked,
+    settle-at.Learnt,
   )
 
   -- ---- `attempt`
-  -- where a call of it has picked the bit to try: the bit is a choice at 0, and one at 1
+  -- where a call of it has picked the bit to try
   module _ (p : attempt-lts.After-top-open attempt-calls (at μ-attempt attempt.Pre) attempt.Post) where
     abbrev begun : attempt-lts.Start attempt-calls (at μ-attempt attempt.Pre) attempt.Post
-    begun = p .before .before .before .before .before
+    begun = p .before .before .before .before .before .before
 
     abbrev zero : Choice width (setting (begun .args .s)) (p .top-open .result) 0
-    zero = at-zero (begun .pre .1 .valid) (p .top-open .ensures .free)
-
-    abbrev one : Choice width (setting (begun .args .s)) (p .top-open .result) (p .top-open .result)
-    one = at-one (begun .pre .1 .valid) (p .top-open .ensures .free)
+    zero = at-zero (begun .pre .1 .begins .valid) (p .top-open .ensures .free)
 
   attempt-top-open-requires : attempt-lts.Need-top-open-requires attempt-calls (at μ-attempt attempt.Pre) attempt.Post
   attempt-top-open-requires c κs =
-      let s = c .before .before .before .before in
+      let s = c .before .before .before .before .before in
       some-open width (setting (s .args .s)) (s .pre .1 .some)
 
   attempt-settle-requires : attempt-lts.Need-settle-requires attempt-calls (at μ-attempt attempt.Pre) attempt.Post
   attempt-settle-requires c κs =
-      let ok = begun (c .before) .pre .1 .valid in
-      let f = more-falls (zero (c .before)) ok in
-      rw (c .settle-at .ensures) (omega (arith, f .one, f .most, begun (c .before) .pre .0), more-sound (zero (c .before)) ok)
+      let picked = c .before .before in
+      let b = begun picked .pre .1 .begins in
+      let f = more-falls (zero picked) (b .valid) in
+      rw (c .before .settle-at .ensures) (
+        omega (arith, f .one, f .most, begun picked .pre .0),
+        record { valid = more-sound (zero picked) (b .valid); long = omega (arith, f .one, b .long) },
+      )
 
   attempt-returns : attempt-lts.Need-returns attempt-calls (at μ-attempt attempt.Pre) attempt.Post
   attempt-returns c =
       let told = c .before .before in
-      let tried = told .before .before in
-      let picked = tried .before .before in
-      zero-enough (begun picked .pre .1 .valid) (picked .top-open .ensures .free) (fulfils _) _
-      (rw (tried .before .settle-at .ensures, told .f2 .given .1) at (tried .settle .ensures)) (c .if1 .taken)
-
-  attempt-settle-requires-2 : attempt-lts.Need-settle-requires-2 attempt-calls (at μ-attempt attempt.Pre) attempt.Post
-  attempt-settle-requires-2 c κs =
-      let picked = c .before .before .before .before .before .before .before in
-      let ok = begun picked .pre .1 .valid in
-      let f = more-falls (one picked) ok in
-      rw (c .settle-at2 .ensures) (omega (arith, f .one, f .most, begun picked .pre .0), more-sound (one picked) ok)
+      let settled = told .before .before .before .before in
+      let picked = settled .before .before .before in
+      zero-enough (begun picked .pre .1 .begins .valid) (picked .top-open .ensures .free) (fulfils _) _
+      (rw (settled .before .before .settle-at .ensures, told .f2 .given .1) at (settled .settle .ensures)) (c .if1 .taken)
 
   attempt-returns-2 : attempt-lts.Need-returns-2 attempt-calls (at μ-attempt attempt.Pre) attempt.Post
   attempt-returns-2 c =
-      let tried = c .before .before .before in
-      more-passes (zero (tried .before .before)) (fulfils _) _
-      (rw (tried .before .settle-at .ensures, c .before .f .given .1) at (tried .settle .ensures))
+      let told = c .before in
+      let settled = told .before .before .before .before in
+      more-passes (zero (settled .before .before .before)) (fulfils _) _
+      (rw (settled .before .before .settle-at .ensures, told .f .given .1) at (settled .settle .ensures))
 
   attempt-returns-3 : attempt-lts.Need-returns-3 attempt-calls (at μ-attempt attempt.Pre) attempt.Post
   attempt-returns-3 c =
-      let again = c .before .before .before in
-      let picked = again .before .before .before .before .before .before .before .before in
-      more-passes (one picked) (fulfils _) _ (rw (again .before .settle-at2 .ensures, c .before .g .given .1) at (again .settle2 .ensures))
-
-  attempt-returns-4 : attempt-lts.Need-returns-4 attempt-calls (at μ-attempt attempt.Pre) attempt.Post
-  attempt-returns-4 c =
-      let told-again = c .before .before in
-      let again = told-again .before .before in
-      let told = again .before .before .before .before in
-      let tried = told .before .before in
-      let picked = tried .before .before in
-      rw (c .resolve .ensures)
-      (both-fail (begun picked .pre .1 .valid) (picked .top-open .ensures .free) (fulfils _) _ _
-      (rw (again .before .settle-at2 .ensures, told-again .g2 .given .1) at (again .settle2 .ensures))
-      (rw (tried .before .settle-at .ensures, told .f2 .given .1) at (tried .settle .ensures)))
+      let told = c .before .before in
+      let settled = told .before .before .before .before in
+      let picked = settled .before .before .before in
+      refuted (begun picked .pre .1 .begins .valid) (picked .top-open .ensures .free)
+      (rw (settled .before .before .settle-at .ensures, told .f2 .given .1) at (settled .settle .ensures))
 
   -- ---- `settle`
-  -- a call of it in its course: `told` is where it knows which bit is forced
-  settle-settle-requires : settle-lts.Need-settle-requires settle-calls (at μ-settle settle.Pre) settle.Post
-  settle-settle-requires c κs =
-      let told = c .before .before in
-      let s = told .before .before .before .before .before .before .before in
-      let C = forced (s .pre .1) (rw (told .look2 .given .1) at (told .before .before .forced .ensures)) in
-      let f = more-falls C (s .pre .1) in
-      rw (c .settle-at .ensures) (omega (arith, f .one, f .most, s .pre .0), more-sound C (s .pre .1))
+  -- where a turn of its loop begins
+  module _ (p : settle-lts.At-loop settle-calls (at μ-settle settle.Pre) settle.Post settle-Inv-loop settle-μ-loop) where
+    abbrev entered : settle-lts.Start settle-calls (at μ-settle settle.Pre) settle.Post settle-Inv-loop settle-μ-loop
+    entered = p .before .before .before .before .before .before
 
-  settle-returns-2 : settle-lts.Need-returns-2 settle-calls (at μ-settle settle.Pre) settle.Post
+    -- what is asked of a pair
+    abbrev P : ℕ → Bool
+    P = fulfils (lent (entered .args .low) (entered .args .whole) (entered .args .states) (entered .args .levels) (entered .args .i))
+
+    -- a trail that leads as far, of the same length
+    abbrev Leads : List ℕ → Type 0
+    Leads trail =
+        Led width P (setting (entered .args .s)) trail (p .loop .noted) (setting (p .loop .r))
+        × (length trail ≡ length (entered .args .trail .now))
+
+    -- it is long enough, as it was at the beginning
+    long : {trail : List ℕ} → Leads trail → LongEnough width (setting (entered .args .s)) trail
+    long l = omega (arith, entered .pre .1 .long, l .1)
+
+    within : {trail : List ℕ} → Leads trail → 2 * p .loop .noted ≤ length trail
+    within l = led-within (l .0) (long l)
+
+    -- the trail when the part that `attempt` was lent is back
+    back : (ys : List ℕ) → length (put (p .loop .inv .0) ys) ≡ length (p .loop .trail) → Leads (put (p .loop .inv .0) ys)
+    back ys e = (led-lent (p .loop .inv .0) ys (within (p .loop .inv)), e ∙ p .loop .inv .1)
+
+    -- what the turn comes to, and the trail then
+    record Comes (trail : List ℕ) (said : Said) : Type 0 where
+      leads : Leads trail
+      says : Says P (p .loop .r) said
+
+    comes-as : {trail u : List ℕ} {said v : Said} → trail ≡ u → said ≡ v → Comes u v → Comes trail said
+    comes-as e f h = rw (e, f) h
+
+  -- the four ways that a turn can go: failed and forced by a look, tested, tried
+  came : (p : settle-lts.At-match-came settle-calls (at μ-settle settle.Pre) settle.Post settle-Inv-loop settle-μ-loop) → Comes (p .before .before) (p .match .trail) (p .match .said)
+  came p =
+      let turn = p .before .before in
+      let L = turn .loop .inv in
+      ⊎-elim
+      (λ w. comes-as turn (w .3) (w .4) record { leads = L; says = rw (w .1 .given .1) at (p .before .forced .ensures) })
+      (λ v. ⊎-elim
+      (λ w. comes-as turn (w .3) (w .4) record { leads = L; says = rw (w .1 .given .1) at (p .before .forced .ensures) })
+      (λ u. ⊎-elim
+      (λ w. comes-as turn (w .5) (w .6) record { leads = L; says = w .4 .ensures })
+      (λ w. comes-as turn (w .8) (w .9) record {
+        leads = back turn (w .5 .last .1 .1 .1 .1 .1 .1 .1 .0) (w .6 .given .1);
+        says = w .5 .ensures;
+      })
+      u)
+      v)
+      (p .match .came)
+
+  settle-loop-holds : settle-lts.Need-loop-holds settle-calls (at μ-settle settle.Pre) settle.Post settle-Inv-loop settle-μ-loop
+  settle-loop-holds c = (led-none (c .before .before .before .before .before .pre .1 .valid), refl)
+
+  settle-test-requires : settle-lts.Need-test-requires settle-calls (at μ-settle settle.Pre) settle.Post settle-Inv-loop settle-μ-loop
+  settle-test-requires c κs = record { valid = c .before .before .before .before .before .loop .inv .0 .sound; all = c .if1 .taken }
+
+  settle-mul-attempt : settle-lts.Need-mul-attempt settle-calls (at μ-settle settle.Pre) settle.Post settle-Inv-loop settle-μ-loop
+  settle-mul-attempt c = record { fits = omega (arith, led-few (c .before .before .before .before .before .loop .inv .0)) }
+
+  settle-mul-attempt-2 : settle-lts.Need-mul-attempt-2 settle-calls (at μ-settle settle.Pre) settle.Post settle-Inv-loop settle-μ-loop
+  settle-mul-attempt-2 c = record { fits = omega (arith, led-few (c .before .before .before .before .before .loop .inv .0)) }
+
+  settle-sub-attempt : settle-lts.Need-sub-attempt settle-calls (at μ-settle settle.Pre) settle.Post settle-Inv-loop settle-μ-loop
+  settle-sub-attempt c =
+      let turn = c .before .before .before .before .before in
+      omega (arith, within turn (turn .loop .inv))
+
+  settle-part-attempt-start : settle-lts.Need-part-attempt-start settle-calls (at μ-settle settle.Pre) settle.Post settle-Inv-loop settle-μ-loop
+  settle-part-attempt-start c =
+      let turn = c .before .before .before .before .before in
+      omega (arith, within turn (turn .loop .inv))
+
+  settle-part-attempt-end : settle-lts.Need-part-attempt-end settle-calls (at μ-settle settle.Pre) settle.Post settle-Inv-loop settle-μ-loop
+  settle-part-attempt-end c = le-refl (length (c .before .before .before .before .before .loop .trail))
+
+  settle-attempt-requires : settle-lts.Need-attempt-requires settle-calls (at μ-settle settle.Pre) settle.Post settle-Inv-loop settle-μ-loop
+  settle-attempt-requires c κs =
+      let turn = c .before .before .before .before .before .before in
+      let L = turn .loop .inv .0 in (
+        omega (arith, L .count, entered turn .pre .0),
+        record {
+          begins = record { valid = L .sound; long = rw (mid-len _ _ _ (le-refl _)) (omega (arith, L .count, long turn (turn .loop .inv))) };
+          some = omega (arith, L .sound .fits, c .before .if1 .left);
+        },
+      )
+
+  settle-same-length : settle-lts.Need-same-length settle-calls (at μ-settle settle.Pre) settle.Post settle-Inv-loop settle-μ-loop
+  settle-same-length c = came (c .before .before .before) .leads .1
+
+  settle-returns : settle-lts.Need-returns settle-calls (at μ-settle settle.Pre) settle.Post settle-Inv-loop settle-μ-loop
+  settle-returns c =
+      let told = c .before in
+      let h = came (told .before .before) in
+      h .leads .0 .passes _ (rw (told .said .given .1) at (h .says))
+
+  settle-resolve-along-requires : settle-lts.Need-resolve-along-requires settle-calls (at μ-settle settle.Pre) settle.Post settle-Inv-loop settle-μ-loop
+  settle-resolve-along-requires c κs =
+      let p = c .before .before .before .before in
+      within (p .before .before) (came p .leads)
+
+  settle-same-length-2 : settle-lts.Need-same-length-2 settle-calls (at μ-settle settle.Pre) settle.Post settle-Inv-loop settle-μ-loop
+  settle-same-length-2 c = came (c .before .before .before .before .before) .leads .1
+
+  settle-returns-2 : settle-lts.Need-returns-2 settle-calls (at μ-settle settle.Pre) settle.Post settle-Inv-loop settle-μ-loop
   settle-returns-2 c =
-      let s = c .before .before .before .before .before .before .before .before .before .before in
-      full-pair width (fulfils _) (setting (s .args .s)) (s .pre .1) (sym (c .before .fulfilled .ensures) ∙ c .if2 .taken)
+      let told = c .before .before .before in
+      let h = came (told .before .before) in
+      rw (c .resolve-along .ensures) (h .leads .0 .reasons _ (rw (told .said2 .given .1) at (h .says)))
 
-  settle-returns-3 : settle-lts.Need-returns-3 settle-calls (at μ-settle settle.Pre) settle.Post
-  settle-returns-3 c = rw (c .before .look .given .1) at (c .before .before .before .forced .ensures)
+  settle-note-requires : settle-lts.Need-note-requires settle-calls (at μ-settle settle.Pre) settle.Post settle-Inv-loop settle-μ-loop
+  settle-note-requires c κs =
+      let told = c .before .before in
+      let p = told .before .before in
+      let h = came p in
+      led-next (h .leads .0) (rw (told .said3 .given .1) at (h .says)) (long (p .before .before) (h .leads))
 
-  settle-returns-4 : settle-lts.Need-returns-4 settle-calls (at μ-settle settle.Pre) settle.Post
-  settle-returns-4 c =
-      let settled = c .before .before .before in
-      let told = settled .before .before .before in
-      let s = told .before .before .before .before .before .before .before in
-      more-passes (forced (s .pre .1) (rw (told .look2 .given .1) at (told .before .before .forced .ensures))) (fulfils _) _
-      (rw (settled .before .settle-at .ensures, c .before .f .given .1) at (settled .settle .ensures))
+  settle-add-noted : settle-lts.Need-add-noted settle-calls (at μ-settle settle.Pre) settle.Post settle-Inv-loop settle-μ-loop
+  settle-add-noted c =
+      let p = c .before .before .before .before .before .before .before in
+      record { fits = omega (arith, led-few (p .before .before .loop .inv .0)) }
 
-  settle-returns-5 : settle-lts.Need-returns-5 settle-calls (at μ-settle settle.Pre) settle.Post
-  settle-returns-5 c =
-      let failed = c .before .before in
-      let settled = failed .before .before in
-      let told = settled .before .before .before in
-      let s = told .before .before .before .before .before .before .before in
-      let F = rw (told .look2 .given .1) at (told .before .before .forced .ensures) in
-      rw (c .resolve .ensures)
-      (resolved-reason (s .pre .1) (forced (s .pre .1) F) (fulfils _) _ _
-      (rw (settled .before .settle-at .ensures, failed .f2 .given .1) at (settled .settle .ensures)) (F .fails))
+  settle-loop-less : settle-lts.Need-loop-less settle-calls (at μ-settle settle.Pre) settle.Post settle-Inv-loop settle-μ-loop
+  settle-loop-less c =
+      let told = c .before .before .before .before .before .before in
+      let h = came (told .before .before) in
+      let ok = h .leads .0 .sound in
+      let f = more-falls (forced ok (rw (told .said3 .given .1) at (h .says))) ok in
+      rw (c .settle-at .ensures) (omega (arith, f .one, f .most))
 
-  settle-returns-6 : settle-lts.Need-returns-6 settle-calls (at μ-settle settle.Pre) settle.Post
-  settle-returns-6 c =
-      let s = c .before .before .before .before .before .before .before .before .before .before in
-      full-nothing width (fulfils _) (setting (s .args .s)) (s .pre .1) (fulfils-same _) (c .before .before .if1 .left)
-      (sym (c .before .fulfilled .ensures) ∙ c .if2 .left)
+  settle-loop-again : settle-lts.Need-loop-again settle-calls (at μ-settle settle.Pre) settle.Post settle-Inv-loop settle-μ-loop
+  settle-loop-again c =
+      let told = c .before .before .before .before .before .before in
+      let p = told .before .before in
+      let h = came p in
+      let F = rw (told .said3 .given .1) at (h .says) in
+      rw (c .settle-at .ensures, c .before .before .before .note .ensures)
+      (led-more (h .leads .0) F (led-next (h .leads .0) F (long (p .before .before) (h .leads))), simp length-set (h .leads .1))
 
 pub +attempt+settle-spec : {M : Type 1} → statement M
 +attempt+settle-spec =
@@ -189,30 +288,35 @@ pub +attempt+settle-spec : {M : Type 1} → statement M
     (attempt-settle-requires t)
     (λ c. search needs)
     (λ c. search needs)
+    (λ c. search needs)
     (attempt-returns t)
-    (λ c κs. search needs)
-    (attempt-settle-requires-2 t)
     (λ c. search needs)
-    (λ c. search needs)
-    (λ c κs. search needs)
     (attempt-returns-2 t)
-    (attempt-returns-3 t)
-    (attempt-returns-4 t))
-    (λ t. settle-lts.spec (settle-calls t) (at t μ-settle settle.Pre) settle.Post
+    (λ c. search needs)
+    (attempt-returns-3 t))
+    (λ t. settle-lts.spec (settle-calls t) (at t μ-settle settle.Pre) settle.Post settle-Inv-loop settle-μ-loop
+    (settle-loop-holds t)
     (λ c κs. search needs)
     (λ c. search needs)
     (λ c. search needs)
-    (λ c κs. search needs)
-    (settle-settle-requires t)
     (λ c. search needs)
+    (settle-test-requires t)
+    (settle-mul-attempt t)
+    (settle-mul-attempt-2 t)
+    (settle-sub-attempt t)
+    (settle-part-attempt-start t)
+    (settle-part-attempt-end t)
+    (settle-attempt-requires t)
     (λ c. search needs)
-    (λ c κs. search needs)
+    (settle-same-length t)
+    (settle-returns t)
     (λ c. search needs)
-    (λ c κs. search needs)
-    (λ c. search needs)
-    (λ c κs. search needs)
+    (settle-resolve-along-requires t)
+    (settle-same-length-2 t)
     (settle-returns-2 t)
-    (settle-returns-3 t)
-    (settle-returns-4 t)
-    (settle-returns-5 t)
-    (settle-returns-6 t))
+    (λ c. search needs)
+    (settle-note-requires t)
+    (settle-add-noted t)
+    (λ c κs. search needs)
+    (settle-loop-less t)
+    (settle-loop-again t))

@@ -1,8 +1,8 @@
--- `question::engine::resolve` meets its contract: it tests what the definition tests. Assumes nothing.
+-- `question::trail::resolve` meets its contract: it tests what the definition tests. Assumes nothing.
 use borrow.Author.Tests.{eq-eqb, ne-eqb}
 use Rattle.question.specs.Reason.{resolved}
-use Rattle.question.proofs.engine.resolve.Statement.{statement}
-use Rattle.question.proofs.engine.resolve.Tie as tie
+use Rattle.question.proofs.trail.resolve.Statement.{statement}
+use Rattle.question.proofs.trail.resolve.Tie as tie
 
 returns : tie.Need-returns
 unfolding resolved
