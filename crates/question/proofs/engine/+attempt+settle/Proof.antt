@@ -171,7 +171,8 @@ module _ (t : ℕ) where
     comes-as e f h = rw (e, f) h
 
   -- the four ways that a turn can go: failed and forced by a look, tested, tried
-  came : (p : settle-lts.At-match-came settle-calls (at μ-settle settle.Pre) settle.Post settle-Inv-loop settle-μ-loop) → Comes (p .before .before) (p .match .trail) (p .match .said)
+  came : (p : settle-lts.At-match-came settle-calls (at μ-settle settle.Pre) settle.Post settle-Inv-loop settle-μ-loop)
+      → Comes (p .before .before) (p .match .trail) (p .match .said)
   came p =
       let turn = p .before .before in
       let L = turn .loop .inv in
