@@ -22,7 +22,7 @@ ghost use Rattle.question.specs.Asked.{askedIn, asked, Block};
 ghost use Rattle.question.specs.Engine.{Valid, GoesOn, Walks, LeastFront};
 
 // Two numbers for each of the 64 positions, since a bit is forced once.
-const TRAIL: usize = 128;
+const TRAIL: usize = 2 * 64;
 
 // A state, or that none exists.
 pub enum Answer {
