@@ -20,8 +20,8 @@ pub(crate) enum Found {
     Nothing(u64),
 }
 
-// What a look, a test or a try says of settled bits: some pair agrees with them; or none does, for these of them; or an open bit is forced to `value`,
-// since the other value fails for `reason`, and looks go on at `next`.
+// What a look, a test or a try says of settled bits: some pair that agrees with them fulfils the condition; or none does, for these of them; or an open
+// bit is forced to `value`, since the other value fails for `reason`, and looks go on at `next`.
 enum Said {
     Pair(u64),
     Failed(u64),

@@ -21,7 +21,7 @@ ghost use Rattle.question.specs.Question.{answered, badIn, stepIn};
 ghost use Rattle.question.specs.Asked.{askedIn, asked, Block};
 ghost use Rattle.question.specs.Engine.{Valid, GoesOn, Walks, LeastFront};
 
-// Two numbers for each of the 64 positions, since a bit is forced once.
+// Two numbers for each of the 64 positions, since no bit is noted twice.
 const TRAIL: usize = 2 * 64;
 
 // A state, or that none exists.

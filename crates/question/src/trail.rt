@@ -1,6 +1,6 @@
-// The trail: each forced bit, behind the bits of the clause that forced it, in the order in which they were settled.
+// The trail: the forced bits in the order in which they were settled, each behind the reason for which its other value fails.
 ghost use mathlib.Core.Path.{_≡_};
-ghost use Prim.Native.Nat.{_+_, _*_, _≤_, _<_};
+ghost use Prim.Native.Nat.{_+_, _*_, _≤_};
 ghost use lib.ListN.{length, set};
 ghost use Rattle.look.specs.Condition.{width};
 ghost use Rattle.question.specs.Reason.{resolved, resolvedAlong};
