@@ -6,7 +6,7 @@ Used is what was written. Before the first question the stack below it is filled
 import gdb
 
 FILL = 0xA5
-BELOW = 1 << 16
+BELOW = 1 << 18
 
 
 def number(expression):

@@ -87,27 +87,33 @@ def leading(start, steps, bad, xs):
 
 
 def refusals():
-    """Calls with one list that is not empty: n, which list, its masks, and the number of the first thing that is wrong."""
-    later = 2**32
-    for n, wrong, masks, number in (
-        (0, 0, [], 1),
-        (33, 0, [], 1),
-        (2, 0, [1], 2),
-        (2, 1, [1], 2),
-        (2, 2, [1], 2),
-        (2, 0, [4, 0], 3),
-        (2, 1, [4, 0], 3),
-        (2, 1, [4 * later, 0], 3),
-        (2, 2, [4, 0], 3),
-        (2, 0, [later, 0], 3),
-        (2, 2, [later, 0], 3),
-        (0, 1, [1], 1),
-        (2, 0, [4], 2),
-        (2, 1, [2 * later, 0], 7),
+    """Calls with one list that is not empty: n, w, which list, its masks, the masks they are the first of, and the number of the first thing that is wrong."""
+    later, top = 2**32, 2**63
+    calls = [(n, w, 0, 0, (0, 0, 0, 0), number) for n, w, number in ((0, 0, 1), (33, 0, 1), (2, 64, 7), (2, 65, 1))]
+    calls += [(2, 0, wrong, masks, (1, 0, 0, 0), 2) for wrong in range(3) for masks in (1, 2, 3)]
+    for wrong, clause in (
+        (0, (4, 0, 0, 0)),
+        (1, (4, 0, 0, 0)),
+        (1, (0, 4 * later, 0, 0)),
+        (2, (0, 4, 0, 0)),
+        (0, (later, 0, 0, 0)),
+        (2, (later, 0, 0, 0)),
     ):
+        calls.append((2, 0, wrong, 4, clause, 3))
+    for wrong in range(3):
+        for w, on, off in ((3, 4, 0), (3, 0, 4), (3, 8, 0), (3, 0, 8), (0, 0, 1), (64, top, 0), (63, top, 0)):
+            declared = wrong > 0 and (on | off) < 2**w
+            calls.append((2, w, wrong, 4, (0, 0, on, off), 7 if declared else 3))
+    calls += [
+        (0, 0, 1, 1, (1, 0, 0, 0), 1),
+        (2, 65, 1, 3, (0, 0, 8, 0), 1),
+        (2, 0, 0, 1, (4, 0, 0, 0), 2),
+        (2, 3, 2, 3, (0, 0, 8, 0), 2),
+        (2, 3, 1, 4, (2 * later, 0, 0, 0), 7),
+    ]
+    for n, w, wrong, masks, clause, number in calls:
         name = ("start", "step", "bad")[wrong]
-        first = masks[0] if masks else 0
-        print(f"n {n}, {name:5} with masks {len(masks)}, the first {first}: refused with {number} and {number}")
+        print(f"n {n}, w {w}, {name:5} with masks {masks} of {' '.join(map(str, clause))}: refused with {number} and {number}")
 
 
 def main():

@@ -27,13 +27,13 @@ def clause(r, n, kind, width):
     return [(position(r >> 8 * k & 255, n, kind), 1 - (r >> 32 + k & 1)) for k in range(count)]
 
 
-def clauses(masks, n, kind, width, r):
-    """As many clauses as that many masks hold, of 61 that are made; the last has one mask."""
+def clauses(count, n, kind, width, r):
+    """So many clauses, of 61 that are made; one to three masks behind them say nothing."""
     made = []
     for _ in range(61):
         r = next_number(r)
         made.append(clause(r, n, kind, width))
-    return made[: min(masks // 2, 60)], r
+    return made[:count], r
 
 
 def stored(r, n):
@@ -56,12 +56,11 @@ def main():
         shape = next_number(x)
         sizes = next_number(shape)
         n = sizes % 12 + 1
-        odd = (sizes >> 8) % 8 // 7
         steps = shape >> 4 & 1 == 1
         width = shape >> 20
         kind = WILD if (shape >> 12) % 4 == 0 else LATER if steps else LOW
-        start, x = clauses((sizes >> 16) % 5 * 2 + odd, n, WILD if (shape >> 14) % 2 == 0 else LOW, width, sizes)
-        asked, x = clauses((sizes >> 24) % 61 * 2 + odd, n, kind, width, x)
+        start, x = clauses((sizes >> 16) % 5, n, WILD if (shape >> 14) % 2 == 0 else LOW, width, sizes)
+        asked, x = clauses((sizes >> 24) % 61, n, kind, width, x)
         states, levels = [], []
         for _ in range(40):
             x = next_number(x)

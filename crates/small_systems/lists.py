@@ -1,7 +1,7 @@
 """The random numbers, literals and kinds of lists of `small_systems`, for the programs that work out what the trials must write."""
 
 M64 = 2**64 - 1
-NOTHING, EVERYTHING, SOME, CLAUSES, CHAIN, LOOPS, DOWN, COUNTER = range(8)
+NOTHING, EVERYTHING, SOME, CLAUSES, CHAIN, LOOPS, DOWN, COUNTER, GATES = range(9)
 
 
 def next_number(x):
@@ -10,9 +10,12 @@ def next_number(x):
     return x ^ (x << 17 & M64)
 
 
-def literal(n, later, bits):
-    """A position and the value wanted there."""
-    return (bits >> 1) % 64 % n + (32 if later and bits >> 7 & 1 else 0), bits & 1
+def literal(n, later, bits, w=0):
+    """A position and the value wanted there: of the pair, or, from 64 on, of the wires."""
+    place = (bits >> 1) % 64 % (n + w)
+    if place >= n:
+        return 64 + place - n, bits & 1
+    return place + (32 if later and bits >> 7 & 1 else 0), bits & 1
 
 
 def explicit(kind, density, n, j, r):

@@ -1,21 +1,21 @@
 -- The limits of a text, of its answer: what stands behind the first 37,999 bytes does not matter, the line of a refusal is 1,027 at most, and no file
--- is refused with 2 or 4, since its lists are pairs of masks, 1,024 at most, and the lent stores are right. Assumes nothing.
+-- is refused with 2 or 4, since its lists have four masks a clause and 1,024 clauses at most, and the lent stores are right. Assumes nothing.
 use Prim.Native.Nat.{ℕ, _/_, _%_, _≤_}
-use mathlib.Core.Bool.{false, _||_}
+use mathlib.Core.Bool.{false}
 use mathlib.Core.List.{List}
 use mathlib.Core.Path.{_≡_, refl, ap}
 use native.Mathlib.Omega.{arith}
-use borrow.Author.Tests.{ne-eqb, le-ltb}
+use borrow.Author.Tests.{le-ltb}
 use lib.ListN.{length, take}
 use Rattle.base.proofs.Tests.{test}
 use Rattle.ic3.specs.Search.{noRoom, spent, noStart, Verdict, safe, unsafe, gaveUp}
 use Rattle.ic3.specs.Demands.{listed}
-use Rattle.system.specs.System.{System, wrongSize, wrongCount, wrongBit, refusalOf}
+use Rattle.system.specs.System.{System, wrongSize, wrongCount, wrongBits, refusalOf}
 use Rattle.call.specs.Call.{Stores, wrongStores, refused, ended, called}
 use Rattle.call.proofs.Call.{refused-system, refused-stores, called-refused, called-searches}
 use Rattle.house.specs.File.{Reading, Said, file, said}
 use Rattle.house.specs.File as house
-use Rattle.house.proofs.Limits.{Limited, Paired, said-limited}
+use Rattle.house.proofs.Limits.{Limited, InFours, said-limited}
 use Rattle.house.proofs.Cut.{said-cut}
 use Rattle.answer.specs.Promise.{FromFile}
 use Rattle.answer.specs.Answer.{scanStores, clauseRooms, systemIn, answered, saidLines}
@@ -31,18 +31,18 @@ pub refused-line : (text : List ℕ) (number line : ℕ) → said clauseRooms te
 refused-line text number line e = limited text (house.refused number line) e .1
 
 -- ---- the numbers of a file
-count-right : (l : List ℕ) → length l % 2 ≡ 0 → length l ≤ 2048 → wrongCount l ≡ false
+count-right : (l : List ℕ) → length l % 4 ≡ 0 → length l ≤ 4096 → wrongCount l ≡ false
 unfolding wrongCount
-count-right l e h = rw (ne-eqb (length l % 2) 1 (λ f. omega (arith, e, f)), le-ltb 4096 (length l / 2) (omega arith))
+count-right l e h = rw (e, le-ltb 4096 (length l / 4) (omega arith))
 
 -- the system's own number is 0, 1 or 3
 refusal-of : {C : Type 0} (y : System) → wrongCount (y .start) ≡ false → wrongCount (y .step) ≡ false → wrongCount (y .bad) ≡ false
     → (refusalOf y ≡ 0 → C) → (refusalOf y ≡ 1 → C) → (refusalOf y ≡ 3 → C) → C
 unfolding refusalOf
 refusal-of y a b c zeroth first third =
-    test (wrongSize (y .n))
+    test (wrongSize (y .n) (y .w))
     (λ e. first (rw (e, refusalOf)))
-    (λ e. test (wrongBit (y .n) 0 (y .start) || (wrongBit (y .n) (y .n) (y .step) || wrongBit (y .n) 0 (y .bad)))
+    (λ e. test (wrongBits (y .n) (y .w) (y .start) (y .step) (y .bad))
     (λ f. third (rw (e, refusalOf) (rw (a, b, c) (rw f))))
     (λ f. zeroth (rw (e, refusalOf) (rw (a, b, c) (rw f)))))
 
@@ -61,7 +61,7 @@ ended-number s q (gaveUp noStart) = refl
 pub file-number : (text : List ℕ) (r : Reading) → said clauseRooms text ≡ file r → FromFile (called (systemIn r) scanStores 1000000 .number)
 unfolding listed
 file-number text r e =
-    let p : Paired r = limited text (file r) e in
+    let p : InFours r = limited text (file r) e in
     let y = systemIn r in
     refusal-of y
     (count-right (r .start) (p .start) (omega (arith, p .all, p .few)))

@@ -21,8 +21,8 @@ over-within : (front store : List ℕ) → length front ≤ length (over front s
 unfolding over
 over-within front store = simp length-append (omega arith)
 
--- stores of 2,048 zeros
-pub rooms-of-zeros : roomsOf (lists (replicate 2048 0) (replicate 2048 0) (replicate 2048 0)) ≡ clauseRooms
+-- stores of 4,096 zeros
+pub rooms-of-zeros : roomsOf (lists (replicate 4096 0) (replicate 4096 0) (replicate 4096 0)) ≡ clauseRooms
 rooms-of-zeros = rw length-replicate
 
 -- what was read, as code has it: a front of each store
@@ -32,7 +32,7 @@ pub record Fronts (h : House) (after : Lists) : Type 0 where
   pub bad : h .bad ≤ length (after .bad)
 
 abbrev pub systemRead : House → Lists → System
-systemRead h l = systemOf (h .n) (take (h .start) (l .start)) (take (h .step) (l .step)) (take (h .bad) (l .bad))
+systemRead h l = systemOf (h .n) 0 (take (h .start) (l .start)) (take (h .step) (l .step)) (take (h .bad) (l .bad))
 
 module _ (text : List ℕ) (lent : Lists) (h : House) (after : Lists) (reads : Reads text lent h after) where
   abbrev Whole : Result

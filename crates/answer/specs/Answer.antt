@@ -45,10 +45,11 @@ systemLines y = callLines (called y scanStores scanAllowance)
 
 -- clause stores that hold all clause lines of a file
 abbrev pub clauseRooms : Rooms
-clauseRooms = record { start = 2 * mostClauseLines; step = 2 * mostClauseLines; bad = 2 * mostClauseLines }
+clauseRooms = record { start = 4 * mostClauseLines; step = 4 * mostClauseLines; bad = 4 * mostClauseLines }
 
+-- the system of a file, which has no wires
 abbrev pub systemIn : Reading → System
-systemIn r = systemOf (r .n) (r .start) (r .step) (r .bad)
+systemIn r = systemOf (r .n) 0 (r .start) (r .step) (r .bad)
 
 unfoldable pub saidLines : Said → List ℕ
 saidLines (file r) = systemLines (systemIn r)

@@ -167,17 +167,18 @@ fn put_outcome<'a>(
 }
 
 // Masks of a clause store that holds all clause lines of a file.
-const MASKS: usize = 2 * base::MOST_CLAUSE_LINES as usize;
+const MASKS: usize = 4 * base::MOST_CLAUSE_LINES as usize;
 
-// The search with the room and the allowance of `scan`, and the lines of its outcome.
+// The search with no wires, and with the room and the allowance of `scan`, and the lines of its outcome.
 fn solve(n: u32, start: &[u64], step: &[u64], bad: &[u64], out: &mut [u8]) -> usize
-    ensures { λ r. ⌜ Writes 0 (systemLines (systemOf n (now (start .entry)) (now (step .entry)) (now (bad .entry)))) (now (out .entry)) r (now (out .exit)) ⌝ }
+    ensures { λ r. ⌜ Writes 0 (systemLines (systemOf n 0 (now (start .entry)) (now (step .entry)) (now (bad .entry)))) (now (out .entry)) r (now (out .exit)) ⌝ }
 {
     let mut states = [0u64; base::SCAN_ROOM];
     let mut levels = [0u32; base::SCAN_ROOM];
     let mut path = [0u64; base::SCAN_ROOM + 2];
     let outcome = search::search(
         n,
+        0,
         start,
         step,
         bad,

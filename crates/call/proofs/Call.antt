@@ -114,9 +114,9 @@ module _ (M : Model) (allowance : ℕ) (s : Stores) (q : ℕ) where
 refused-few : (y : System) (s : Stores) → refused y s ≤ 4
 unfolding refused refusalOf
 refused-few y s =
-    let a = wrongSize (y .n) in
+    let a = wrongSize (y .n) (y .w) in
     let b = wrongCounts (y .start) (y .step) (y .bad) in
-    let c = wrongBits (y .n) (y .start) (y .step) (y .bad) in
+    let c = wrongBits (y .n) (y .w) (y .start) (y .step) (y .bad) in
     let own : (1 if a else 2 if b else 3 if c) ≤ 4 = else-most 4 (1 if a) (2 if b else 3 if c) (omega (arith, if-most 1 a))
     (else-most 4 (2 if b) (3 if c) (omega (arith, if-most 2 b)) (omega (arith, if-most 3 c))) in
     else-most 4 (1 if a else 2 if b else 3 if c) (4 if wrongStores s) own (if-most 4 (wrongStores s))

@@ -11,7 +11,8 @@ use Rattle.masks.specs.Bit.{bit, somewhere}
 use Rattle.masks.proofs.Somewhere.{somewhere-false}
 use Rattle.ic3.specs.Model.{least}
 use Rattle.ic3.specs.Search.{levelOf, put, states, R, wanted, Verdict, safe, unsafe, gaveUp, judge, goesOn, round, tested, found, deeper, settled, fits, kept, react, next, searchFrom, begun, searched}
-use Rattle.system.specs.System.{System, literalTrue, clauseTrue, listTrue, pair, model, wrongSize, wrongCount, wrongBit, refusalOf}
+use Rattle.system.specs.System.{System, literalTrue, clauseTrue, fourTrue, listTrue, someTrue, pair, model, wrongSize, wrongCount, wrongMask, wrongClause, wrongBit, refusalOf}
+use Rattle.system.specs.Plain.{widenedList, widened}
 use Rattle.call.specs.Call.{Stores, Result, ended, rounds}
 use Rattle.call.specs.Sequencers.{Step, given, ring, ringGiven, late, lateGiven, chain, chainGiven, Given, Sequencer, sequencer, sequencers, Ends, Worked}
 use Rattle.call.proofs.Call.{refused-stores, called-searches}
@@ -44,15 +45,15 @@ given-by y steps e f g =
     }
 
 pub ring-given : Given ring ringGiven
-unfolding differ bit somewhere literalTrue clauseTrue listTrue pair model
+unfolding differ bit somewhere literalTrue clauseTrue fourTrue listTrue someTrue pair model widenedList widened
 ring-given = given-by ring ringGiven refl refl refl
 
 pub late-given : Given late lateGiven
-unfolding differ bit somewhere literalTrue clauseTrue listTrue pair model
+unfolding differ bit somewhere literalTrue clauseTrue fourTrue listTrue someTrue pair model widenedList widened
 late-given = given-by late lateGiven refl refl refl
 
 pub chain-given : Given chain chainGiven
-unfolding differ bit somewhere literalTrue clauseTrue listTrue pair model
+unfolding differ bit somewhere literalTrue clauseTrue fourTrue listTrue someTrue pair model widenedList widened
 chain-given = given-by chain chainGiven refl refl refl
 
 -- ---- they end as the scope says
@@ -68,11 +69,11 @@ computed x = let r = searching x in sequencer (x .system) (x .room) (x .allowanc
 
 -- THE COMPUTATION: the list is what comes out of it, and none of its systems is refused
 table : (any : ℕ) → map computed (sequencers any) ≡ sequencers any
-unfolding bit somewhere literalTrue clauseTrue listTrue pair model least levelOf put states R wanted judge goesOn round tested found deeper settled fits kept react next searchFrom begun searched ended
+unfolding bit somewhere literalTrue clauseTrue fourTrue listTrue someTrue pair model widenedList widened least levelOf put states R wanted judge goesOn round tested found deeper settled fits kept react next searchFrom begun searched ended
 table any = refl
 
 accepted : (any : ℕ) → map (λ x. refusalOf (x .system)) (sequencers any) ≡ map (λ x. 0) (sequencers any)
-unfolding wrongSize wrongCount wrongBit refusalOf
+unfolding widenedList widened wrongSize wrongCount wrongMask wrongClause wrongBit refusalOf
 accepted any = refl
 
 ends-same : (x : Sequencer) (s : Stores) (q : ℕ) (v : Verdict) → Ends x (ended nothing q v) → Ends x (ended s q v)

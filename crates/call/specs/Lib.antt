@@ -2,3 +2,4 @@
 pub mod Call
 pub mod Sequencers
 pub mod Promise
+pub mod Plain

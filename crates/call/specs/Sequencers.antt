@@ -1,4 +1,5 @@
--- The worked sequencers that the scope marks, as one list, and the one statement over it.
+-- The worked sequencers that the scope marks, as one list, and the one statement over it. They have no wires, so their lists have two masks a clause and are
+-- widened.
 use Prim.Native.Nat.{ℕ, zero, suc, _+_, _-_, _*_, _^_, _<_}
 use mathlib.Core.Bool.{Bool, true, false, _&&_, _||_}
 use mathlib.Core.List.{List, [], _∷_, _++_}
@@ -6,6 +7,7 @@ use mathlib.Core.Path.{_≡_}
 use lib.Dec.{eqb}
 use lib.ListN.{length}
 use Rattle.system.specs.System.{System, model}
+use Rattle.system.specs.Plain.{widened}
 use Rattle.call.specs.Call.{Stores, wrongStores, Said, says-safe, says-unsafe, gives-up, Result, called}
 
 -- a step, from one state to another
@@ -39,7 +41,7 @@ only xs = rows xs 4
 
 -- n = 2, start {0}
 abbrev pub starting : List ℕ → List ℕ → System
-starting step bad = record { n = 2; start = 0 ∷ (1 ∷ (0 ∷ (2 ∷ []))); step = step; bad = bad }
+starting step bad = widened (record { n = 2; start = 0 ∷ (1 ∷ (0 ∷ (2 ∷ []))); step = step; bad = bad })
 
 -- bad {3}
 abbrev pub three : List ℕ
@@ -77,7 +79,7 @@ chain = starting (only chainGiven) three
 
 -- Ring's steps with I and B empty lists
 abbrev pub emptyLists : System
-emptyLists = record { n = 2; start = []; step = ringSteps; bad = [] }
+emptyLists = widened (record { n = 2; start = []; step = ringSteps; bad = [] })
 
 -- Ring with B one clause of two zero masks
 abbrev pub badFalse : System
@@ -85,7 +87,7 @@ badFalse = starting ringSteps (0 ∷ (0 ∷ []))
 
 -- Ring with I one clause of two zero masks: no start state
 abbrev pub noStart : System
-noStart = record { n = 2; start = 0 ∷ (0 ∷ []); step = ringSteps; bad = three }
+noStart = widened (record { n = 2; start = 0 ∷ (0 ∷ []); step = ringSteps; bad = three })
 
 -- the system has start {0}, bad {3} and the steps given, and no others
 pub record Given (y : System) (steps : List Step) : Type 0 where

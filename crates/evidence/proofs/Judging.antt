@@ -55,7 +55,7 @@ module _ (y : System) (xs : List ℕ) where
 
   -- what is not refused has at most 32 bits
   pub refused-small : refused y xs ≡ 0 → y .n ≤ 32
-  refused-small e = size-right (y .n) (refusal-none y (refused-none e .0) .0) .1
+  refused-small e = size-right (y .n) (y .w) (refusal-none y (refused-none e .0) .0) .1
 
   -- so each listed state is below 2^32
   pub refused-below : refused y xs ≡ 0 → each (λ x. ltb x (2 ^ 32)) xs ≡ true

@@ -1,21 +1,24 @@
 -- A path, judged: the tests that the check makes are those of demand 2, one by one. That each of its states is below the size comes from refusal 7.
 -- Assumes nothing.
-use Prim.Native.Nat.{ℕ, suc, _+_, _<_, _≤_}
+use Prim.Native.Nat.{ℕ, suc, _+_, _%_, _^_, _<_, _≤_}
 use mathlib.Core.Bool.{Bool, true, false}
 use mathlib.Core.List.{List, [], _∷_}
-use mathlib.Core.Path.{_≡_, refl}
+use mathlib.Core.Path.{_≡_, refl, ap}
+use native.Mathlib.Nat.{mod-eq-of-lt}
 use native.Mathlib.Numerals.{add-one}
 use native.Mathlib.Omega.{arith}
 use borrow.Author.Tests.{eqb-true, eq-eqb}
-use lib.Dec.{eqb}
+use lib.Dec.{eqb, ltb}
 use lib.ListN.{length, getD, drop, drop-of-length-le}
 use lib.Seq.{drop-cons}
 use Rattle.base.proofs.Tests.{test, clash}
 use Rattle.base.proofs.Lists.{next-two}
 use Rattle.ic3.specs.Model.{Model}
 use Rattle.ic3.specs.Demands.{Leads, IsPath, listed}
-use Rattle.evidence.specs.Check.{leadsOn, pathOf, questionsOf}
+use Rattle.system.specs.System.{someTrue, pair}
+use Rattle.evidence.specs.Check.{each, leadsOn, pathOf, questionsOf}
 use Rattle.evidence.specs.declared.Checked.the-variants.{Yes, No}
+use Rattle.evidence.proofs.Each.{below-at}
 use Rattle.evidence.proofs.Excluding.{Decides}
 
 module _ (M : Model) where
@@ -115,3 +118,13 @@ module _ (step : ℕ → ℕ → Bool) (bad : ℕ → Bool) (l : List ℕ) (i : 
   pub leads-ends : i < length l → length l ≤ i + 1 → leadsOn step bad (drop i l) ≡ bad (getD l i 0)
   unfolding leadsOn
   leads-ends h k = rw (drop-cons l i 0 h, drop-of-length-le l {i = suc i} (omega arith))
+
+-- as code asks of a path whose states are below 2^32: their low halves are the states, and a pair with a later half of 0 is the state itself
+module _ {v w : ℕ} (e : v ≡ w) (list l : List ℕ) (small : each (λ x. ltb x (2 ^ 32)) l ≡ true) (i : ℕ) where
+  pub step-asked : i + 1 < length l
+      → someTrue v list (pair (getD l i 0 % 2 ^ 32) (getD l (i + 1) 0 % 2 ^ 32)) ≡ someTrue w list (pair (getD l i 0) (getD l (i + 1) 0))
+  step-asked h = rw (e, mod-eq-of-lt (below-at (2 ^ 32) l i (omega arith) small), mod-eq-of-lt (below-at (2 ^ 32) l (i + 1) h small))
+
+  pub bad-asked : i < length l → someTrue v list (pair (getD l i 0 % 2 ^ 32) (0 % 2 ^ 32)) ≡ someTrue w list (getD l i 0)
+  unfolding pair
+  bad-asked h = rw e (ap (someTrue w list) (omega (arith, mod-eq-of-lt (below-at (2 ^ 32) l i h small))))

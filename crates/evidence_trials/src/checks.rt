@@ -37,11 +37,19 @@ fn taken(checked: evidence::Checked) -> Said {
 }
 
 // The check of paths, or of excluded states.
-pub fn check(path: bool, n: u32, start: &[u64], step: &[u64], bad: &[u64], list: &[u64]) -> Said {
+pub fn check(
+    path: bool,
+    n: u32,
+    w: u32,
+    start: &[u64],
+    step: &[u64],
+    bad: &[u64],
+    list: &[u64],
+) -> Said {
     if path {
-        taken(evidence::check_path(n, start, step, bad, list))
+        taken(evidence::check_path(n, w, start, step, bad, list))
     } else {
-        taken(evidence::check_excluded(n, start, step, bad, list))
+        taken(evidence::check_excluded(n, w, start, step, bad, list))
     }
 }
 

@@ -30,7 +30,7 @@ fn compare(
     table: &[bool],
     list: &[u64],
 ) {
-    let said = checks::check(path, n, start, step, bad, list);
+    let said = checks::check(path, n, 0, start, step, bad, list);
     let wanted = checks::wanted(path, n, table, list);
     let entered = counts::enter(*counts, line, path, said, wanted, list.len());
     *counts = entered;
@@ -134,7 +134,7 @@ fn try_evidence(
 
 fn both(counts: &mut [u64; 102], n: u32, start: &[u64], step: &[u64], bad: &[u64]) {
     let mut table = [false; 288];
-    tables::table(n, start, step, bad, &mut table);
+    tables::table(n, 0, start, step, bad, &mut table);
     try_evidence(counts, false, n, start, step, bad, &table);
     try_evidence(counts, true, n, start, step, bad, &table);
 }
@@ -164,9 +164,9 @@ fn step_kind(i: u64) -> u64 {
 
 // System number i.
 fn system(counts: &mut [u64; 102], i: u64, shape: u64) {
-    let mut start = [0u64; 32];
-    let mut step = [0u64; 512];
-    let mut bad = [0u64; 32];
+    let mut start = [0u64; 64];
+    let mut step = [0u64; 1024];
+    let mut bad = [0u64; 64];
     let n = (i % 4 + 1) as u32;
     let few = (shape >> 24) % 3 + 2;
     let many = (shape >> 28) % 4 + 2;
@@ -180,15 +180,17 @@ fn system(counts: &mut [u64; 102], i: u64, shape: u64) {
         kind_of(shape >> 32),
         few,
         n,
+        0,
         false,
         shape ^ START_SEED,
         &mut start,
     );
-    let b = small_systems::fill(kind, density, n, true, shape ^ STEP_SEED, &mut step);
+    let b = small_systems::fill(kind, density, n, 0, true, shape ^ STEP_SEED, &mut step);
     let c = small_systems::fill(
         kind_of(shape >> 40),
         few,
         n,
+        0,
         false,
         shape ^ BAD_SEED,
         &mut bad,

@@ -2,7 +2,7 @@
 -- definition's. The size and the count of clause lines change no list. Assumes nothing.
 use Prim.Native.Nat.{ℕ, _+_, _≤_, _<_}
 use mathlib.Core.Bool.{Bool, true, false, _&&_}
-use mathlib.Core.List.{List, [], _∷_}
+use mathlib.Core.List.{List}
 use mathlib.Core.Path.{_≡_, refl, ap}
 use native.Mathlib.Numerals.{add-one}
 use native.Mathlib.Omega.{arith}
@@ -11,7 +11,7 @@ use lib.Dec.{ltb}
 use Rattle.stores.specs.Lies.{Lies}
 use Rattle.line.specs.declared.Line.{Line}
 use Rattle.line.specs.declared.Line.the-variants.{Size, Clause, Count, Wrong}
-use Rattle.house.specs.File.{on, refuse, roomFor, withClause, takenAs}
+use Rattle.house.specs.File.{on, refuse, clauseOf, roomFor, withClause, takenAs}
 use Rattle.house.specs.Promise.{Lists, lists, roomsOf}
 use Rattle.house.specs.Contracts.{PutAs, Lie, readingOf, oneMore, Same, Leads, Enters}
 use Rattle.house.specs.declared.enter.Reading.{Reading}
@@ -45,7 +45,7 @@ module _ (r : Reading) (l : Lists) (kind ones zeros : ℕ) where
     same : Same l after
     lie : room ≡ true → Lies start (after .start) × Lies step (after .step) × Lies bad (after .bad)
     reading : room ≡ true → readingOf (record { stage = stage; n = r .n; clauses = r .clauses + 1; start = start; step = step; bad = bad }) after
-        ≡ withClause (readingOf r l) kind (ones ∷ (zeros ∷ []))
+        ≡ withClause (readingOf r l) kind (clauseOf ones zeros)
 
   clause-put : (room : Bool) (stage start step bad : ℕ) (after : Lists) → Grows room stage start step bad after
       → Enters r (Clause kind ones zeros) l (oneMore room stage r start step bad) after
@@ -53,7 +53,7 @@ module _ (r : Reading) (l : Lists) (kind ones zeros : ℕ) where
   clause-put room stage start step bad after g = rw (g .found, takenAs) (pick (ltb (r .clauses) 1024) room refl refl)
     where
       pick : (few has : Bool) → ltb (r .clauses) 1024 ≡ few → room ≡ has
-          → Leads (elim (few && has) [ true ↦ on (withClause (readingOf r l) kind (ones ∷ (zeros ∷ []))) | false ↦ refuse 12 ]) l
+          → Leads (elim (few && has) [ true ↦ on (withClause (readingOf r l) kind (clauseOf ones zeros)) | false ↦ refuse 12 ]) l
           (elim (few && has) [
             | true ↦ On (record { stage = stage; n = r .n; clauses = r .clauses + 1; start = start; step = step; bad = bad })
             | false ↦ Refused 12
@@ -72,10 +72,10 @@ module _ (r : Reading) (l : Lists) (kind ones zeros : ℕ) where
 -- each kind's list
 module _ {r : Reading} {start step bad : List ℕ} (w : Lie r (lists start step bad)) {kind ones zeros : ℕ} {room : Bool} where
   pub start-put : {start' : List ℕ} → kind ≡ 1 → PutAs start (r .start) ones zeros room start'
-      → Enters r (Clause kind ones zeros) (lists start step bad) (oneMore room 1 r (r .start + 2) (r .step) (r .bad)) (lists start' step bad)
+      → Enters r (Clause kind ones zeros) (lists start step bad) (oneMore room 1 r (r .start + 4) (r .step) (r .bad)) (lists start' step bad)
   unfolding roomFor withClause
   start-put {start'} e g =
-      clause-put r (lists start step bad) kind ones zeros room 1 (r .start + 2) (r .step) (r .bad) (lists start' step bad)
+      clause-put r (lists start step bad) kind ones zeros room 1 (r .start + 4) (r .step) (r .bad) (lists start' step bad)
       (record {
         found = rw e (put-room start (r .start) ones zeros room start' (w .start) g);
         same = record { start = g .same; step = refl; bad = refl };
@@ -84,10 +84,10 @@ module _ {r : Reading} {start step bad : List ℕ} (w : Lie r (lists start step 
       })
 
   pub step-put : {step' : List ℕ} → kind ≡ 2 → PutAs step (r .step) ones zeros room step'
-      → Enters r (Clause kind ones zeros) (lists start step bad) (oneMore room 2 r (r .start) (r .step + 2) (r .bad)) (lists start step' bad)
+      → Enters r (Clause kind ones zeros) (lists start step bad) (oneMore room 2 r (r .start) (r .step + 4) (r .bad)) (lists start step' bad)
   unfolding roomFor withClause
   step-put {step'} e g =
-      clause-put r (lists start step bad) kind ones zeros room 2 (r .start) (r .step + 2) (r .bad) (lists start step' bad)
+      clause-put r (lists start step bad) kind ones zeros room 2 (r .start) (r .step + 4) (r .bad) (lists start step' bad)
       (record {
         found = rw e (put-room step (r .step) ones zeros room step' (w .step) g);
         same = record { start = refl; step = g .same; bad = refl };
@@ -96,10 +96,10 @@ module _ {r : Reading} {start step bad : List ℕ} (w : Lie r (lists start step 
       })
 
   pub bad-put : {bad' : List ℕ} → (kind ≡ 1 → ⊥) → (kind ≡ 2 → ⊥) → PutAs bad (r .bad) ones zeros room bad'
-      → Enters r (Clause kind ones zeros) (lists start step bad) (oneMore room 3 r (r .start) (r .step) (r .bad + 2)) (lists start step bad')
+      → Enters r (Clause kind ones zeros) (lists start step bad) (oneMore room 3 r (r .start) (r .step) (r .bad + 4)) (lists start step bad')
   unfolding roomFor withClause
   bad-put {bad'} e f g =
-      clause-put r (lists start step bad) kind ones zeros room 3 (r .start) (r .step) (r .bad + 2) (lists start step bad')
+      clause-put r (lists start step bad) kind ones zeros room 3 (r .start) (r .step) (r .bad + 4) (lists start step bad')
       (record {
         found = rw (ne-eqb kind 1 e, ne-eqb kind 2 f, roomFor) (put-room bad (r .bad) ones zeros room bad' (w .bad) g);
         same = record { start = refl; step = refl; bad = g .same };

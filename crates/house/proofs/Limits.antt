@@ -17,7 +17,7 @@ use Rattle.line.specs.Says.{inPlace, width, lengthFor, field, content, frameSay
 use Rattle.line.specs.declared.Line.{Line}
 use Rattle.line.specs.declared.Line.the-variants.{Wrong}
 use Rattle.line.proofs.Frames.{form}
-use Rattle.house.specs.File.{Rooms, Reading, Taken, on, refuse, roomFor, withClause, takenAs, lineTaken}
+use Rattle.house.specs.File.{Rooms, Reading, Taken, on, refuse, clauseOf, roomFor, withClause, takenAs, lineTaken}
 use Rattle.house.specs.File.{Said, file, refused, nothing, readLines, said}
 
 -- the 00 line, 1,024 clause lines and the 0F line; from a stage on, those of them that can still come
@@ -63,17 +63,17 @@ place-known (suc s) kind e =
     (λ f. omega (arith, eqb-true kind 15 f))
     (λ f. omega (arith, either-kind kind (both (leb (suc s) kind) _ e .1) (eqb-false kind 15 f)))
 
--- each list is one of pairs of masks, and they have no more pairs than clause lines were read
-pub record Paired (r : Reading) : Type 0 where
-  pub start : length (r .start) % 2 ≡ 0
-  pub step : length (r .step) % 2 ≡ 0
-  pub bad : length (r .bad) % 2 ≡ 0
-  pub all : length (r .start) + length (r .step) + length (r .bad) ≡ 2 * r .clauses
+-- each list has four masks a clause, and they have as many clauses as clause lines were read
+pub record InFours (r : Reading) : Type 0 where
+  pub start : length (r .start) % 4 ≡ 0
+  pub step : length (r .step) % 4 ≡ 0
+  pub bad : length (r .bad) % 4 ≡ 0
+  pub all : length (r .start) + length (r .step) + length (r .bad) ≡ 4 * r .clauses
   pub few : r .clauses ≤ 1024
 
 -- where a line of `len` bytes leads; a refusal has a number that is not 0
 abbrev pub Onward : Reading → ℕ → Taken → Type 0
-Onward r len (on r') = (left r' + 1 ≤ left r) × (len ≤ 37) × (Paired r → Paired r')
+Onward r len (on r') = (left r' + 1 ≤ left r) × (len ≤ 37) × (InFours r → InFours r')
 Onward r len (refuse number) = 0 < number
 
 module _ (r : Reading) (kind : ℕ) (clause : List ℕ) where
@@ -93,13 +93,13 @@ module _ (r : Reading) (kind : ℕ) (clause : List ℕ) where
   unfolding left
   clause-left = by-kind (λ x. left x ≡ 1 + (1024 - suc (r .clauses))) refl refl refl
 
-  clause-paired : length clause ≡ 2 → r .clauses < 1024 → Paired r → Paired (withClause r kind clause)
-  clause-paired two few p =
-      let a : length (r .start ++ clause) ≡ length (r .start) + 2 = length-append (r .start) clause ∙ ap (λ x. length (r .start) + x) two in
-      let b : length (r .step ++ clause) ≡ length (r .step) + 2 = length-append (r .step) clause ∙ ap (λ x. length (r .step) + x) two in
-      let c : length (r .bad ++ clause) ≡ length (r .bad) + 2 = length-append (r .bad) clause ∙ ap (λ x. length (r .bad) + x) two in
+  clause-in-fours : length clause ≡ 4 → r .clauses < 1024 → InFours r → InFours (withClause r kind clause)
+  clause-in-fours four few p =
+      let a : length (r .start ++ clause) ≡ length (r .start) + 4 = length-append (r .start) clause ∙ ap (λ x. length (r .start) + x) four in
+      let b : length (r .step ++ clause) ≡ length (r .step) + 4 = length-append (r .step) clause ∙ ap (λ x. length (r .step) + x) four in
+      let c : length (r .bad ++ clause) ≡ length (r .bad) + 4 = length-append (r .bad) clause ∙ ap (λ x. length (r .bad) + x) four in
       let sum = p .all in
-      by-kind Paired
+      by-kind InFours
       (record { start = omega (arith, p .start, a); step = p .step; bad = p .bad; all = omega arith; few = few })
       (record { start = p .start; step = omega (arith, p .step, b); bad = p .bad; all = omega arith; few = few })
       (record { start = p .start; step = p .step; bad = omega (arith, p .bad, c); all = omega arith; few = few })
@@ -109,8 +109,8 @@ module _ (r : Reading) (kind : ℕ) (clause : List ℕ) where
 abbrev staged : Reading → ℕ → ℕ → Reading
 staged r stage n = record { stage = stage; n = n; clauses = r .clauses; start = r .start; step = r .step; bad = r .bad }
 
-staged-paired : (r : Reading) (stage n : ℕ) → Paired r → Paired (staged r stage n)
-staged-paired r stage n p = record { start = p .start; step = p .step; bad = p .bad; all = p .all; few = p .few }
+staged-in-fours : (r : Reading) (stage n : ℕ) → InFours r → InFours (staged r stage n)
+staged-in-fours r stage n p = record { start = p .start; step = p .step; bad = p .bad; all = p .all; few = p .few }
 
 when : (b : Bool) (r : Reading) (len : ℕ) (x y : Taken) → (b ≡ true → Onward r len x) → (b ≡ false → Onward r len y)
     → Onward r len (elim b as (λ z. Taken) [ true ↦ x | false ↦ y ])
@@ -130,18 +130,18 @@ module _ (rooms : Rooms) (r : Reading) (len : ℕ) where
     content-onward kind frame e =
         says-when (eqb kind 0) _ _
         (λ z. let s : r .stage ≡ 0 = place-size (r .stage) (rw (eqb-true kind 0 z) at e) in
-        (omega (arith, left-first r s, left-later (staged r 1 (getD frame 1 0)) 0 refl (omega arith)), short, staged-paired r 1 (getD frame 1 0)))
+        (omega (arith, left-first r s, left-later (staged r 1 (getD frame 1 0)) 0 refl (omega arith)), short, staged-in-fours r 1 (getD frame 1 0)))
         (λ z. place-other (r .stage) kind e (eqb-false kind 0 z) (place-known (r .stage) kind e)
         (λ s f h.
         says-when (eqb kind 15) _ _
         (λ y. when (eqb (field frame 1 2) (r .clauses)) r len _ (refuse 13)
-        (λ x. (omega (arith, left-later r s f h, left-last (staged r 16 (r .n)) 15 refl (omega arith)), short, staged-paired r 16 (r .n)))
+        (λ x. (omega (arith, left-later r s f h, left-last (staged r 16 (r .n)) 15 refl (omega arith)), short, staged-in-fours r 16 (r .n)))
         (λ x. omega arith))
         (λ y. when (ltb (r .clauses) 1024 && roomFor rooms r kind) r len _ (refuse 12)
         (λ x.
         let few = ltb-true (r .clauses) 1024 (both (ltb (r .clauses) 1024) (roomFor rooms r kind) x .0) in
-        let clause = field frame 1 (width kind) ∷ (field frame (1 + width kind) (width kind) ∷ []) in
-        (omega (arith, left-later r s f h, clause-left r kind clause, few), short, clause-paired r kind clause refl few))
+        let clause = clauseOf (field frame 1 (width kind)) (field frame (1 + width kind) (width kind)) in
+        (omega (arith, left-later r s f h, clause-left r kind clause, few), short, clause-in-fours r kind clause refl few))
         (λ x. omega arith))))
 
     frame-onward : (frame : List ℕ) → Onward r len (takenAs rooms r (frameSays frame (r .stage)))
@@ -176,18 +176,18 @@ line-onward rooms r line = pick (bytes line) refl
         (λ g. frame-onward rooms r (length line) (omega (arith, form line f e .size, ltb-false 18 (length f) (or-second (eqb (length f) 0) (ltb 18 (length f)) g))) f)
 
 -- ---- a text
--- a refusal has a number that is not 0 and stands at line 1,027 at the latest; a file's lists are pairs, and few
+-- a refusal has a number that is not 0 and stands at line 1,027 at the latest; a file's lists have four masks a clause, and few clauses
 abbrev pub Limited : Said → Type 0
-Limited (file r) = Paired r
+Limited (file r) = InFours r
 Limited (refused number line) = (0 < number) × (line ≤ 1027)
 
-lines-limited : (rooms : Rooms) (ls : List (List ℕ)) (k : ℕ) (r : Reading) → k + left r ≤ 1027 → Paired r → Limited (readLines rooms ls k r)
+lines-limited : (rooms : Rooms) (ls : List (List ℕ)) (k : ℕ) (r : Reading) → k + left r ≤ 1027 → InFours r → Limited (readLines rooms ls k r)
 unfolding readLines
 lines-limited rooms [] k r h p = test (eqb (r .stage) 16) (λ e. rw (e, readLines) p) (λ e. rw (e, readLines) (omega arith, omega arith))
 lines-limited rooms (l ∷ ls) k r h p = pick (lineTaken rooms r l) refl (line-onward rooms r l) (lines-limited rooms ls (suc k))
   where
     pick : (t : Taken) → lineTaken rooms r l ≡ t → Onward r (length l) t
-        → ((r' : Reading) → suc k + left r' ≤ 1027 → Paired r' → Limited (readLines rooms ls (suc k) r')) → Limited (readLines rooms (l ∷ ls) k r)
+        → ((r' : Reading) → suc k + left r' ≤ 1027 → InFours r' → Limited (readLines rooms ls (suc k) r')) → Limited (readLines rooms (l ∷ ls) k r)
     pick (on r') e w rest = rw (e, readLines) (rest r' (omega (arith, w .0)) (w .2 p))
     pick (refuse number) e w rest = rw (e, readLines) (w, omega arith)
 

@@ -2,7 +2,7 @@
 -- each list is the front of its store. Nothing here has to be believed: no public promise mentions it.
 use Prim.Native.Nat.{ℕ, _+_, _≤_, _<_}
 use mathlib.Core.Bool.{Bool, true, false, _&&_}
-use mathlib.Core.List.{List, [], _∷_, _++_}
+use mathlib.Core.List.{List, [], _++_}
 use mathlib.Core.Path.{_≡_}
 use lib.Dec.{eqb, ltb, leb}
 use lib.ListN.{length, take, drop}
@@ -10,7 +10,7 @@ use Rattle.base.specs.Refusals.{mostClauseLines}
 use Rattle.stores.specs.Lies.{Lies}
 use Rattle.text.specs.Lines.{lines, lineLength, LineAt}
 use Rattle.line.specs.declared.Line.{Line}
-use Rattle.house.specs.File.{takenAs, lineTaken, on, refuse, Said, refused, readLines, said}
+use Rattle.house.specs.File.{clauseOf, takenAs, lineTaken, on, refuse, Said, refused, readLines, said}
 use Rattle.house.specs.File as file
 use Rattle.house.specs.Promise.{Lists, roomsOf, resultOf}
 use Rattle.house.specs.declared.House.{House}
@@ -20,12 +20,12 @@ use Rattle.house.specs.declared.enter.Taken.{Taken}
 use Rattle.house.specs.declared.enter.Taken.the-variants.{On, Refused}
 
 -- ---- what was read
--- two masks more, if there is room
+-- a clause's four masks more, if there is room
 pub record PutAs (store : List ℕ) (count ones zeros : ℕ) (done : Bool) (store' : List ℕ) : Type 0 where
-  pub room : done ≡ leb (count + 2) (length store)
+  pub room : done ≡ leb (count + 4) (length store)
   pub same : length store' ≡ length store
-  pub lies : done ≡ true → Lies (count + 2) store'
-  pub list : done ≡ true → take (count + 2) store' ≡ take count store ++ (ones ∷ (zeros ∷ []))
+  pub lies : done ≡ true → Lies (count + 4) store'
+  pub list : done ≡ true → take (count + 4) store' ≡ take count store ++ clauseOf ones zeros
 
 pub record Lie (r : Reading) (l : Lists) : Type 0 where
   pub most : r .clauses ≤ mostClauseLines

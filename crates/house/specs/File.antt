@@ -35,9 +35,13 @@ pub data Taken : Type 0 where
   on : Reading → Taken
   refuse : ℕ → Taken
 
+-- a clause line's four masks: those of the bits, and two that want no wire
+abbrev pub clauseOf : ℕ → ℕ → List ℕ
+clauseOf ones zeros = ones ∷ (zeros ∷ (0 ∷ (0 ∷ [])))
+
 -- room for one clause more
 unfoldable pub hasRoom : ℕ → List ℕ → Bool
-hasRoom room list = leb (length list + 2) room
+hasRoom room list = leb (length list + 4) room
 
 -- the room of a kind's list, and the reading with one clause more in it
 unfoldable pub roomFor : Rooms → Reading → ℕ → Bool
@@ -61,7 +65,7 @@ withClause r kind clause =
 abbrev pub takenAs : Rooms → Reading → Line → Taken
 takenAs rooms r (Size n) = on (record { stage = 1; n = n; clauses = r .clauses; start = r .start; step = r .step; bad = r .bad })
 takenAs rooms r (Clause kind ones zeros) =
-    elim (ltb (r .clauses) mostClauseLines && roomFor rooms r kind) [ true ↦ on (withClause r kind (ones ∷ (zeros ∷ []))) | false ↦ refuse 12 ]
+    elim (ltb (r .clauses) mostClauseLines && roomFor rooms r kind) [ true ↦ on (withClause r kind (clauseOf ones zeros)) | false ↦ refuse 12 ]
 takenAs rooms r (Count count) =
     elim (eqb count (r .clauses)) [
       | true ↦ on (record { stage = 16; n = r .n; clauses = r .clauses; start = r .start; step = r .step; bad = r .bad })

@@ -27,15 +27,15 @@ pub(super) enum Taken {
     Refused(u32),
 }
 
-// Two masks behind the list in front of the store, if there is room.
+// A clause's four masks behind the list in front of the store, if there is room. The wires' two are 0, as all behind the list is.
 fn put(store: &mut [u64], count: usize, ones: u64, zeros: u64) -> bool
     requires { ⌜ Lies count (now store) ⌝ }
     ensures { λ r. ⌜ PutAs (now (store .entry)) count ones zeros r (now (store .exit)) ⌝ }
 {
-    if store.len() < 2 {
+    if store.len() < 4 {
         return false;
     }
-    if store.len() - 2 < count {
+    if store.len() - 4 < count {
         return false;
     }
     store[count] = ones;
@@ -63,7 +63,7 @@ fn one_more(room: bool, stage: u32, r: Reading, start: usize, step: usize, bad: 
     })
 }
 
-// A clause: its list has two masks more.
+// A clause: its list has four masks more.
 fn enter_clause(
     r: Reading,
     kind: u32,
@@ -82,14 +82,14 @@ fn enter_clause(
 {
     if kind == 1 {
         let room = put(start, r.start, ones, zeros);
-        return one_more(room, 1, r, r.start + 2, r.step, r.bad);
+        return one_more(room, 1, r, r.start + 4, r.step, r.bad);
     }
     if kind == 2 {
         let room = put(step, r.step, ones, zeros);
-        return one_more(room, 2, r, r.start, r.step + 2, r.bad);
+        return one_more(room, 2, r, r.start, r.step + 4, r.bad);
     }
     let room = put(bad, r.bad, ones, zeros);
-    one_more(room, 3, r, r.start, r.step, r.bad + 2)
+    one_more(room, 3, r, r.start, r.step, r.bad + 4)
 }
 
 // What a line says is entered. Refusal 13: count wrong.

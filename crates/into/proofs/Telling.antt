@@ -9,7 +9,7 @@ use lib.Dec.{ltb}
 use Rattle.base.specs.Refusals.{_if_}
 use Rattle.base.proofs.Refusals.{else-first, else-none}
 use Rattle.masks.proofs.OneBit.{pow-within}
-use Rattle.system.specs.System.{System, listTrue, pair, model, refusalOf}
+use Rattle.system.specs.System.{System, someTrue, pair, model, refusalOf}
 use Rattle.system.proofs.Refusals.{size-right, refusal-none}
 use Rattle.into.specs.Into.{Into, refused, result, told}
 use Rattle.into.specs.Promise.{resultOf, Promised, Filled}
@@ -24,7 +24,7 @@ module _ (y : System) (t : ℕ) where
 
   -- past them n is at most 32
   small : refusalOf y ≡ 0 → y .n ≤ 32
-  small e = size-right (y .n) (refusal-none y e .0) .1
+  small e = size-right (y .n) (y .w) (refusal-none y e .0) .1
 
   -- so 2^n fits the code's numbers, and the given state is held to it
   module _ (end : ℕ) (free : refusalOf y ≡ 0) (e : end ≡ 2 ^ y .n % 2 ^ 64) where
@@ -55,7 +55,7 @@ module _ (y : System) (t : ℕ) where
           equation = f (some .0) (some .1);
         }
 
-    pub promised-filled : refused y t ≡ 0 → Filled (2 ^ y .n) (λ s. listTrue (y .step) (pair s t)) lent r after → Promised y t lent r after
+    pub promised-filled : refused y t ≡ 0 → Filled (2 ^ y .n) (λ s. someTrue (y .w) (y .step) (pair s t)) lent r after → Promised y t lent r after
     unfolding told model
     promised-filled e f = promised (λ xs l. f xs l ∙ sym (rw (e, told)))
 

@@ -1,10 +1,11 @@
 // Every state that steps into a given one, written into a lent store in rising order: a question for the next one, until there is none.
+use question::Free;
 ghost use mathlib.Core.Path.{_≡_};
 ghost use mathlib.Core.Bool.{_&&_};
 ghost use Prim.Native.Nat.{_^_, _≤_};
 ghost use Rattle.ic3.specs.Model.{least};
 ghost use Rattle.question.specs.Question.{notBelow, answered};
-ghost use Rattle.system.specs.System.{listTrue, pair, systemOf};
+ghost use Rattle.system.specs.System.{someTrue, pair, systemOf};
 ghost use Rattle.into.specs.Into.{refused};
 ghost use Rattle.into.specs.Promise.{Promised, Filled};
 
@@ -16,10 +17,10 @@ pub struct Listing {
 }
 
 // The refusals in the order 1, 2, 3, 29; 0 if there is none.
-fn refusal(n: u32, start: &[u64], step: &[u64], bad: &[u64], state: u64) -> u32
-    ensures { λ r. ⌜ r ≡ refused (systemOf n (now (start .entry)) (now (step .entry)) (now (bad .entry))) state ⌝ }
+fn refusal(n: u32, w: u32, start: &[u64], step: &[u64], bad: &[u64], state: u64) -> u32
+    ensures { λ r. ⌜ r ≡ refused (systemOf n w (now (start .entry)) (now (step .entry)) (now (bad .entry))) state ⌝ }
 {
-    let number = system::refusal(n, start, step, bad);
+    let number = system::refusal(n, w, start, step, bad);
     if number != 0 {
         return number;
     }
@@ -30,13 +31,13 @@ fn refusal(n: u32, start: &[u64], step: &[u64], bad: &[u64], state: u64) -> u32
 }
 
 // The least state not below `from` that steps to the given one: R(1) with nothing stored is every state.
-fn next(n: u32, step: &[u64], state: u64, from: u64) -> question::Answer
-    requires { ⌜ n ≤ 32 ⌝ }
-    ensures { λ r. ⌜ answered r ≡ least (2 ^ n) (λ s. notBelow from s && listTrue (now (step .entry)) (pair s state)) ⌝ }
+fn next(free: Free, step: &[u64], state: u64, from: u64) -> question::Answer
+    requires { ⌜ free .n ≤ 32 ⌝ }
+    ensures { λ r. ⌜ answered r ≡ least (2 ^ (free .n)) (λ s. notBelow from s && someTrue (free .w) (now (step .entry)) (pair s state)) ⌝ }
 {
     let levels = [0u32; 1];
     question::step_in(
-        n,
+        free,
         &step[..0],
         step,
         &step[..0],
@@ -48,14 +49,14 @@ fn next(n: u32, step: &[u64], state: u64, from: u64) -> question::Answer
 }
 
 // Writes state after state. With one more than the store holds, it is all zero again.
-fn fill(n: u32, step: &[u64], state: u64, store: &mut [u64]) -> Listing
-    requires { ⌜ n ≤ 32 ⌝ }
-    ensures { λ r. ⌜ Filled (2 ^ n) (λ s. listTrue (now (step .entry)) (pair s state)) (now (store .entry)) r (now (store .exit)) ⌝ }
+fn fill(free: Free, step: &[u64], state: u64, store: &mut [u64]) -> Listing
+    requires { ⌜ free .n ≤ 32 ⌝ }
+    ensures { λ r. ⌜ Filled (2 ^ (free .n)) (λ s. someTrue (free .w) (now (step .entry)) (pair s state)) (now (store .entry)) r (now (store .exit)) ⌝ }
 {
     let mut count = 0;
     let mut from = 0;
     loop {
-        let answer = next(n, step, state, from);
+        let answer = next(free, step, state, from);
         let question::Answer::State(s) = answer else {
             stores::clear_behind(store, count);
             return Listing {
@@ -81,15 +82,16 @@ fn fill(n: u32, step: &[u64], state: u64, store: &mut [u64]) -> Listing
 // Every state that steps into the given one.
 pub fn list(
     n: u32,
+    w: u32,
     start: &[u64],
     step: &[u64],
     bad: &[u64],
     state: u64,
     store: &mut [u64],
 ) -> Listing
-    ensures { λ r. ⌜ Promised (systemOf n (now (start .entry)) (now (step .entry)) (now (bad .entry))) state (now (store .entry)) r (now (store .exit)) ⌝ }
+    ensures { λ r. ⌜ Promised (systemOf n w (now (start .entry)) (now (step .entry)) (now (bad .entry))) state (now (store .entry)) r (now (store .exit)) ⌝ }
 {
-    let number = refusal(n, start, step, bad, state);
+    let number = refusal(n, w, start, step, bad, state);
     if number != 0 {
         return Listing {
             number,
@@ -97,5 +99,10 @@ pub fn list(
             questions: 0,
         };
     }
-    fill(n, step, state, store)
+    let free = Free {
+        n,
+        w,
+        first: order::first(step, w),
+    };
+    fill(free, step, state, store)
 }

@@ -24,7 +24,7 @@ fn walk(n: u32, step: &[u64], t: u64, list: &mut [u64; 1024]) -> usize {
     let mut count = 0;
     let mut s = 0;
     while s < end {
-        if count < 1024 && tables::list_holds(step, s | t << 32) {
+        if count < 1024 && tables::list_holds(step, s | t << 32, 0) {
             list[count] = s;
             count += 1;
         }
@@ -45,7 +45,7 @@ fn ask(
     list: &[u64],
     wanted: into::Listing,
 ) {
-    let said = into::list(n, start, step, bad, state, store);
+    let said = into::list(n, 0, start, step, bad, state, store);
     counts::enter(counts, said, wanted, store, list);
 }
 
@@ -173,18 +173,18 @@ fn targets(
 
 // System number i.
 fn system(counts: &mut [u64; counts::PLACES], i: u64, shape: u64) {
-    let mut start = [0u64; 64];
-    let mut step = [0u64; 1024];
-    let mut bad = [0u64; 64];
+    let mut start = [0u64; 128];
+    let mut step = [0u64; 2048];
+    let mut bad = [0u64; 128];
     let n = systems::bits_of(i);
     counts::count(counts, counts::SYSTEMS, 1);
     let kind = systems::kind_of(n, shape >> 24);
     let many = systems::density(kind, n, shape >> 32);
     let few = (shape >> 56) % 32;
     let short = small_systems::CLAUSES;
-    let a = small_systems::fill(short, few, n, false, shape ^ START_SEED, &mut start);
-    let b = small_systems::fill(kind, many, n, true, shape ^ STEP_SEED, &mut step);
-    let c = small_systems::fill(short, few, n, false, shape ^ BAD_SEED, &mut bad);
+    let a = small_systems::fill(short, few, n, 0, false, shape ^ START_SEED, &mut start);
+    let b = small_systems::fill(kind, many, n, 0, true, shape ^ STEP_SEED, &mut step);
+    let c = small_systems::fill(short, few, n, 0, false, shape ^ BAD_SEED, &mut bad);
     targets(
         counts,
         n,

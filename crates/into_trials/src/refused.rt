@@ -3,8 +3,8 @@ use super::counts;
 use super::refuse;
 use super::systems;
 
-// The ways: n is 0, or 33, and a list has one mask; a list has one mask, with a wrong bit; a clause has a bit that is not below n, or a later one that
-// is not, or in start or bad a later one at all. Where n is wrong a list is odd too, and an odd list has a wrong bit, so the order shows.
+// The ways: n is 0, or 33; a list has one, two or three masks; a clause has a bit that is not below n, or a later one that is not, or in start or bad
+// a later one at all. Where n is wrong a list's count is wrong too, and a list of a wrong count has a wrong bit, so the order shows.
 const WAYS: u64 = 11;
 
 // Which list is wrong: 0 start, 1 step, 2 bad.
@@ -15,7 +15,7 @@ fn masks_in(way: u64, list: u64) -> usize {
     if LISTS[(way % WAYS) as usize] != list {
         return 0;
     }
-    if way < 5 { 1 } else { 2 }
+    if way < 5 { (way % 3 + 1) as usize } else { 4 }
 }
 
 // The first mask of the wrong list.
@@ -50,9 +50,9 @@ fn number_of(way: u64) -> u32 {
 // One way.
 fn call(counts: &mut [u64; counts::PLACES], way: u64, n: u32, random: u64) {
     let mask = mask_of(way, n);
-    let start = [mask, 0];
-    let step = [mask, 0];
-    let bad = [mask, 0];
+    let start = [mask, 0, 0, 0];
+    let step = [mask, 0, 0, 0];
+    let bad = [mask, 0, 0, 0];
     refuse(
         counts,
         bits_of(way, n),

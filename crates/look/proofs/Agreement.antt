@@ -1,5 +1,5 @@
--- Agreement and containment of masks, read bit by bit: two pairs agree on a mask if they have the same bit wherever the mask has a 1, and a mask
--- is among another if the other has a 1 wherever it has. With these two readings both ways, what is to be shown of pairs is shown at one
+-- Agreement and containment of masks, read bit by bit: two words agree on a mask if they have the same bit wherever the mask has a 1, and a mask
+-- is among another if the other has a 1 wherever it has. With these two readings both ways, what is to be shown of words is shown at one
 -- position at a time. Assumes nothing.
 use Prim.Native.Nat.{ℕ, _≤_}
 use mathlib.Core.Logic.{⊎-elim}
@@ -37,7 +37,7 @@ pub among-le : (m s : ℕ) → Among m s → m ≤ s
 unfolding Among
 among-le m s e = omega (arith, and-le-r m s)
 
--- pairs that agree on a mask agree on what is among it
+-- words that agree on a mask agree on what is among it
 pub agree-among : (m s w v : ℕ) → Among m s → Agree s w v → Agree m w v
 agree-among m s w v a g =
     agree-by m w v (λ j o. agree-at s w v g j (omega (arith, among-at m s a j, bit-le s j)))

@@ -1,52 +1,41 @@
--- One clause against the settled bits. A clause looks at no other bits than those of its masks, so that if it is false of one pair it is false of
+-- One clause against the settled bits. A clause looks at no other bits than those of its masks, so that if it is false of one word it is false of
 -- each that agrees there. With no literal true under the settled values and none open it is false of the values themselves; with one bit open,
 -- wanted by one of the masks alone, it is false of the values with that bit at the other value. Each step is one at a single position, where
 -- `omega` has the operations as linear facts. Assumes nothing.
 use mathlib.Core.Path.{_≡_, sym, _∙_}
-use mathlib.Core.Logic.{_⊎_, inl, inr, ⊎-elim}
-use mathlib.Core.Bool.{false}
+use mathlib.Core.Logic.{_⊎_, inl, inr, _↔_, ⊎-elim}
+use mathlib.Core.Bool.{Bool, false}
 use Prim.Native.Nat.{ℕ, _+_, _-_, _^_, _≤_, _<_}
-use native.Mathlib.Nat.{lt-of-le-of-lt}
 use native.Mathlib.Omega.{arith}
-use lib.Bits.{bitAnd, bitOr, and-le-l, or-lt}
-use lib.Count.{trailingZeros}
+use lib.Bits.{bitAnd, bitOr}
 use Rattle.base.proofs.Tests.{eq-or-ne}
 use Rattle.masks.specs.Bit.{bit}
-use Rattle.masks.proofs.Bits.{bit-le, bit-cases, bit-of-zero, bit-within, at-bit, bits-at}
+use Rattle.masks.proofs.Bits.{bit-le, bit-cases, bit-of-zero, at-bit, bits-at}
 use Rattle.masks.proofs.Operations.{meet, join, less}
 use Rattle.masks.proofs.OneBit.{pow-here, pow-other}
-use Rattle.masks.proofs.Ends.{lowest-end}
-use Rattle.system.specs.System.{clauseTrue}
-use Rattle.system.proofs.Clauses.{clause-literals}
 use Rattle.look.specs.Reason.{Agree, Reason, Forces, Setting}
 use Rattle.look.proofs.Agreement.{among-by}
 use Rattle.look.proofs.Values.{Choice, value-here, value-other, other, other-here}
 
--- a clause that is false of a pair is false of each that agrees on the bits of its masks
-clause-why : (ones zeros v : ℕ) → clauseTrue ones zeros v ≡ false → (w : ℕ) → Agree (bitOr ones zeros) w v → clauseTrue ones zeros w ≡ false
+-- P is a clause that wants the bits of `ones` 1 and those of `zeros` 0: it is false exactly if each literal is
+abbrev pub Clausal : ℕ → (ℕ → Bool) → ℕ → ℕ → Type 0
+Clausal width P ones zeros =
+    (w : ℕ) → (P w ≡ false) ↔ ((i : ℕ) → i < width → (bit ones i + bit w i ≤ 1) × (bit zeros i ≤ bit w i))
+
+-- a clause that is false of a word is false of each that agrees on the bits of its masks
+clause-why : (width : ℕ) (P : ℕ → Bool) (ones zeros : ℕ) → Clausal width P ones zeros
+    → (v : ℕ) → P v ≡ false → (w : ℕ) → Agree (bitOr ones zeros) w v → P w ≡ false
 unfolding Agree
-clause-why ones zeros v e w a =
-    clause-literals ones zeros w .1
+clause-why width P ones zeros L v e w a =
+    L w .1
     (λ j l. omega (
       arith,
-      clause-literals ones zeros v .0 e j l,
+      L v .0 e j l,
       meet w (bitOr ones zeros) j,
       meet v (bitOr ones zeros) j,
       join ones zeros j,
       at-bit j a,
     ))
-
--- the lowest bit of a mask that is not 0 is one of its bits
-lowest-within : (width m : ℕ) → m < 2 ^ width → (m ≡ 0 → ⊥) → trailingZeros width m < width
-lowest-within width m h f =
-    bit-within width m (trailingZeros width m) h (lowest-end width m (omega (arith, f)) h .here)
-
--- the lowest open bit, if there is one, is below the width
-pub lowest-below : (width ones zeros m : ℕ) → ones < 2 ^ width → zeros < 2 ^ width → (bitOr (bitAnd ones m) (bitAnd zeros m) ≡ 0 → ⊥)
-    → trailingZeros width (bitOr (bitAnd ones m) (bitAnd zeros m)) < width
-lowest-below width ones zeros m p q =
-    lowest-within width (bitOr (bitAnd ones m) (bitAnd zeros m))
-    (or-lt width (bitAnd ones m) (bitAnd zeros m) (lt-of-le-of-lt (and-le-l ones m) p) (lt-of-le-of-lt (and-le-l zeros m) q))
 
 -- a mask with no bit but k
 zero-or-power : (k m : ℕ) → ((j : ℕ) → (j ≡ k → ⊥) → bit m j ≡ 0) → (m ≡ 0) ⊎ (m ≡ 2 ^ k)
@@ -56,7 +45,7 @@ zero-or-power k m none =
     (λ o. inr (bits-at k m (2 ^ k) (omega (arith, pow-here k)) (λ j f. omega (arith, none j f, pow-other k j f))))
     (bit-cases m k)
 
-module _ (width ones zeros : ℕ) (s : Setting) (p : ones < 2 ^ width) (q : zeros < 2 ^ width) (fs : s .bits < 2 ^ width)
+module _ (width : ℕ) (P : ℕ → Bool) (ones zeros : ℕ) (L : Clausal width P ones zeros) (s : Setting) (p : ones < 2 ^ width) (q : zeros < 2 ^ width) (fs : s .bits < 2 ^ width)
     (no-ones : bitAnd ones (s .values) ≡ 0) (no-zeros : bitAnd zeros (s .values) ≡ bitAnd zeros (s .bits)) where
   -- the open bits that are wanted 1
   abbrev want-1 : ℕ
@@ -81,15 +70,15 @@ module _ (width ones zeros : ℕ) (s : Setting) (p : ones < 2 ^ width) (q : zero
   wanted-0 j = omega (arith, meet zeros (s .values) j, meet zeros (s .bits) j, at-bit j no-zeros, open-0 j)
 
   -- no literal is open: it fails
-  pub clause-fails : bitOr want-1 want-0 ≡ 0 → Reason (clauseTrue ones zeros) s (bitOr ones zeros)
+  pub clause-fails : bitOr want-1 want-0 ≡ 0 → Reason P s (bitOr ones zeros)
   clause-fails e =
       record {
         among =
             among-by (bitOr ones zeros) (s .bits)
             (λ j. omega (arith, join ones zeros j, join want-1 want-0 j, at-bit j e, bit-of-zero j, open-1 j, open-0 j));
         why =
-            clause-why ones zeros (s .values)
-            (clause-literals ones zeros (s .values) .1
+            clause-why width P ones zeros L (s .values)
+            (L (s .values) .1
             (λ j l. omega (arith, wanted-1 j, wanted-0 j, join want-1 want-0 j, at-bit j e, bit-of-zero j)));
       }
 
@@ -138,7 +127,7 @@ module _ (width ones zeros : ℕ) (s : Setting) (p : ones < 2 ^ width) (q : zero
     others = bitOr (s .values) (bitOr want-1 want-0 - want-1)
 
     -- one bit alone is open, wanted by one of the masks alone: it is forced
-    pub clause-forces : Forces width (clauseTrue ones zeros) s (bitOr ones zeros) (bitOr want-1 want-0) want-1
+    pub clause-forces : Forces width P s (bitOr ones zeros) (bitOr want-1 want-0) want-1
     clause-forces =
         record {
           free = forced .free;
@@ -155,8 +144,8 @@ module _ (width ones zeros : ℕ) (s : Setting) (p : ones < 2 ^ width) (q : zero
                   open-0 j,
                 ));
             why =
-                clause-why ones zeros others
-                (clause-literals ones zeros others .1 (λ j l. ⊎-elim (λ e. rw e here) (there j) (eq-or-ne j k)));
+                clause-why width P ones zeros L others
+                (L others .1 (λ j l. ⊎-elim (λ e. rw e here) (there j) (eq-or-ne j k)));
           };
         }
       where

@@ -14,5 +14,5 @@ module _ (P Q : ℕ → Bool) (h : (w : ℕ) → P w ≡ false → Q w ≡ false
 
   pub scanned-by : (s : Settled) (r : Look) → Scanned P s r → Scanned Q s r
   scanned-by s Rest l = tt
-  scanned-by s (Failed reason) l = reason-by _ reason l
-  scanned-by s (Forced reason b value next) l = record { free = l .free; either = l .either; fails = reason-by _ reason (l .fails) }
+  scanned-by s (Failed reason) l = reason-by _ _ l
+  scanned-by s (Forced reason b value next) l = record { free = l .free; either = l .either; fails = reason-by _ _ (l .fails) }

@@ -1,5 +1,5 @@
--- A test of the low part of a pair alone, its `half` lowest positions. It is put to pairs that are 0 above, where all counts as settled; the low part
--- of any pair is such a pair. So of a reason the low part is enough: pairs that agree on it have low parts that agree on all of the reason. A bit
+-- A test of the low part of a word alone, its `half` lowest positions. It is put to words that are 0 above, where all counts as settled; the low part
+-- of any word is such a word. So of a reason the low part is enough: words that agree on it have low parts that agree on all of the reason. A bit
 -- that is forced is one of the low part's, since all others count as settled. Assumes nothing.
 use mathlib.Core.Path.{_≡_, _∙_}
 use mathlib.Core.Logic.{⊎-elim}

@@ -1,4 +1,4 @@
--- What a look finds, of pairs of any width, as numbers that are read bit by bit: settled bits for which nothing passes, and bits that are forced. P is
+-- What a look finds, of words of any width, as numbers that are read bit by bit: settled bits for which nothing passes, and bits that are forced. P is
 -- the condition.
 use Prim.Native.Nat.{ℕ, _-_, _^_, _<_}
 use mathlib.Core.Bool.{Bool, false}
@@ -7,7 +7,7 @@ use mathlib.Core.Path.{_≡_}
 use lib.Bits.{bitAnd, bitOr}
 use Rattle.masks.specs.Bit.{bit}
 
--- the pairs w and v agree on the bits of m
+-- the words w and v agree on the bits of m
 unfoldable pub Agree : ℕ → ℕ → ℕ → Type 0
 Agree m w v = bitAnd w m ≡ bitAnd v m
 
@@ -33,7 +33,7 @@ abbrev pub more : Setting → ℕ → ℕ → Setting
 more s b value = record { bits = bitOr (s .bits) b; values = bitOr (s .values) value }
 
 -- ---- why nothing passes
--- A REASON: settled bits such that no pair that agrees with the values on them passes P
+-- A REASON: settled bits such that no word that agrees with the values on them passes P
 pub record Reason (P : ℕ → Bool) (s : Setting) (bits : ℕ) : Type 0 where
   pub among : Among bits (s .bits)
   pub why : (w : ℕ) → Agree bits w (s .values) → P w ≡ false

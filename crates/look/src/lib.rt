@@ -1,29 +1,32 @@
 // Looks at clauses and at excluded states against settled bits: what has failed, and which bit is forced. A clause is one test of whole masks. To
-// say that nothing is forced promises nothing, since a whole pair is tested in the end.
+// say that nothing is forced promises nothing, since a whole word is tested in the end.
+use masks::Mask;
 use system::Clause;
+ghost use mathlib.Core.List.{List};
 ghost use mathlib.Core.Path.{_≡_};
+ghost use Prim.Native.Nat.{ℕ, _%_, _^_};
 ghost use lib.Dec.{leb};
 ghost use lib.ListN.{getD};
-ghost use Rattle.system.specs.System.{clauseTrue, listTrue};
+ghost use Rattle.masks.specs.Word.{wordOf};
 ghost use Rattle.look.specs.Excluded.{excluded};
-ghost use Rattle.look.specs.Condition.{stateOf, allowed, lent, fulfils};
-ghost use Rattle.look.specs.Look.{Scanned};
+ghost use Rattle.look.specs.Condition.{stateOf, wordTrue, allowed, region, lent, outside, fulfils};
+ghost use Rattle.look.specs.Look.{clauseOf, StateSettled, Scanned};
 
 // Settled bits, and their values. What is asked has its values within the bits, a bit that is open being 0 among them; a look takes any two masks.
 pub struct Settled {
-    pub bits: u64,
-    pub values: u64,
+    pub bits: Mask,
+    pub values: Mask,
 }
 
 // What a look at clauses or excluded states says: nothing is forced; or one has failed, for these settled bits; or its one open bit is forced to
 // `value`, since the other value fails for `reason`, and the look goes on at `next`.
 pub enum Look {
     Rest,
-    Failed(u64),
+    Failed(Mask),
     Forced {
-        reason: u64,
-        bit: u64,
-        value: u64,
+        reason: Mask,
+        bit: Mask,
+        value: Mask,
         next: usize,
     },
 }
@@ -34,33 +37,36 @@ pub const HALF: u64 = 1 << 32;
 // The positions of the state, the low half.
 pub const STATE: u64 = 0xFFFF_FFFF;
 
+// All positions of a word.
+pub const ALL: u64 = 0xFFFF_FFFF_FFFF_FFFF;
+
 // One clause against the settled bits: true, or failed, or with one open bit, or none of these yet.
 fn clause(c: Clause, s: Settled, next: usize) -> Look
-    ensures { λ r. ⌜ Scanned (clauseTrue (c .ones) (c .zeros)) s r ⌝ }
+    ensures { λ r. ⌜ Scanned (clauseOf c) s r ⌝ }
 {
     let Clause { ones, zeros } = c;
     let Settled { bits, values } = s;
-    if ones & values != 0 {
+    if !masks::is_empty(masks::and(ones, values)) {
         return Look::Rest;
     }
-    if zeros & values != zeros & bits {
+    if !masks::same(masks::and(zeros, values), masks::and(zeros, bits)) {
         return Look::Rest;
     }
-    let want_1 = ones & !bits;
-    let want_0 = zeros & !bits;
-    let open = want_1 | want_0;
-    if open == 0 {
-        return Look::Failed(ones | zeros);
+    let want_1 = masks::without(ones, bits);
+    let want_0 = masks::without(zeros, bits);
+    let open = masks::or(want_1, want_0);
+    let reason = masks::or(ones, zeros);
+    if masks::is_empty(open) {
+        return Look::Failed(reason);
     }
-    let k = u64::trailing_zeros(open);
-    if open != 1u64 << k {
+    if !masks::is_single(open) {
         return Look::Rest;
     }
-    if want_1 == want_0 {
+    if masks::same(want_1, want_0) {
         return Look::Rest;
     }
     Look::Forced {
-        reason: ones | zeros,
+        reason,
         bit: open,
         value: want_1,
         next,
@@ -69,15 +75,21 @@ fn clause(c: Clause, s: Settled, next: usize) -> Look
 
 // The clauses of a list, once round from the clause `at` on.
 fn scan(list: &[u64], at: usize, s: Settled) -> Look
-    ensures { λ r. ⌜ Scanned (listTrue (now (list .entry))) s r ⌝ }
+    ensures { λ r. ⌜ Scanned (wordTrue (now (list .entry))) s r ⌝ }
 {
-    let count = list.len() / 2;
+    let count = list.len() / 4;
     let mut j = if at < count { at } else { 0 };
     let mut left = count;
     while 0 < left {
         let c = Clause {
-            ones: list[2 * j],
-            zeros: list[2 * j + 1],
+            ones: Mask {
+                pair: list[4 * j],
+                wires: list[4 * j + 2],
+            },
+            zeros: Mask {
+                pair: list[4 * j + 1],
+                wires: list[4 * j + 3],
+            },
         };
         let look = clause(c, s, j + 1);
         let Look::Rest = look else {
@@ -89,26 +101,40 @@ fn scan(list: &[u64], at: usize, s: Settled) -> Look
     Look::Rest
 }
 
-// The clauses of a list that speaks of the state alone: the later half counts as settled to 0, and is no part of a reason.
+// The part of a mask that is the state's.
+fn low_part(m: Mask) -> Mask
+    ensures { λ r. ⌜ wordOf r ≡ wordOf m % 2 ^ 32 ⌝ }
+{
+    Mask {
+        pair: m.pair % HALF,
+        wires: 0,
+    }
+}
+
+// The clauses of a list that speaks of the state alone: the later half and the wires count as settled to 0, and are no part of a reason.
 fn scan_low(list: &[u64], s: Settled, next: usize) -> Look
-    ensures { λ r. ⌜ Scanned (λ w. listTrue (now (list .entry)) (stateOf w)) s r ⌝ }
+    ensures { λ r. ⌜ Scanned (λ w. wordTrue (now (list .entry)) (stateOf w)) s r ⌝ }
 {
     let Settled { bits, values } = s;
+    let above = Mask {
+        pair: ALL - STATE,
+        wires: ALL,
+    };
     let lowered = Settled {
-        bits: bits | !STATE,
-        values: values % HALF,
+        bits: masks::or(bits, above),
+        values: low_part(values),
     };
     let look = scan(list, 0, lowered);
     match look {
         Look::Rest => Look::Rest,
-        Look::Failed(reason) => Look::Failed(reason % HALF),
+        Look::Failed(reason) => Look::Failed(low_part(reason)),
         Look::Forced {
             reason,
             bit,
             value,
             next: _,
         } => Look::Forced {
-            reason: reason % HALF,
+            reason: low_part(reason),
             bit,
             value,
             next,
@@ -142,14 +168,33 @@ pub fn is_excluded(states: &[u64], levels: &[u32], i: u32, s: u64) -> bool
     false
 }
 
+// With the whole state settled: a failure at an excluded state rests on the state's bits alone. With no bit open at all the word is tested next, the
+// excluded states first.
+fn scan_state(states: &[u64], levels: &[u32], i: u32, s: Settled) -> Look
+    requires { ⌜ StateSettled s ⌝ }
+    ensures { λ r. ⌜ Scanned (allowed (now (states .entry)) (now (levels .entry)) i) s r ⌝ }
+{
+    let Settled { bits, values } = s;
+    if bits.pair & bits.wires == ALL {
+        return Look::Rest;
+    }
+    if is_excluded(states, levels, i, values.pair % HALF) {
+        return Look::Failed(Mask {
+            pair: STATE,
+            wires: 0,
+        });
+    }
+    Look::Rest
+}
+
 // The excluded states. Each is a clause that some bit of the state differs; it uses all of them, so it says nothing while two are open.
 fn scan_states(states: &[u64], levels: &[u32], i: u32, s: Settled, next: usize) -> Look
     ensures { λ r. ⌜ Scanned (allowed (now (states .entry)) (now (levels .entry)) i) s r ⌝ }
 {
     let Settled { bits, values: _ } = s;
-    let open = !bits % HALF;
+    let open = !bits.pair % HALF;
     if open == 0 {
-        return Look::Rest;
+        return scan_state(states, levels, i, s);
     }
     if open & (open - 1) != 0 {
         return Look::Rest;
@@ -160,8 +205,14 @@ fn scan_states(states: &[u64], levels: &[u32], i: u32, s: Settled, next: usize) 
         if state < HALF {
             if at_level(levels, j, i) {
                 let c = Clause {
-                    ones: STATE - state,
-                    zeros: state,
+                    ones: Mask {
+                        pair: STATE - state,
+                        wires: 0,
+                    },
+                    zeros: Mask {
+                        pair: state,
+                        wires: 0,
+                    },
                 };
                 let look = clause(c, s, next);
                 let Look::Rest = look else {
@@ -175,24 +226,36 @@ fn scan_states(states: &[u64], levels: &[u32], i: u32, s: Settled, next: usize) 
 }
 
 // What is forced next: clauses come to rest before the excluded states are looked at.
-pub fn forced(
-    low: &[u64],
-    whole: &[u64],
-    states: &[u64],
-    levels: &[u32],
-    i: u32,
-    s: Settled,
-    at: usize,
-) -> Look
-    ensures { λ r. ⌜ Scanned (fulfils (lent (low .entry) (whole .entry) (states .entry) (levels .entry) i)) s r ⌝ }
+pub fn forced(within: &[u64], whole: &[u64], levels: &[u32], i: u32, s: Settled, at: usize) -> Look
+    ensures { λ r. ⌜ Scanned (fulfils (lent (within .entry) (whole .entry) (levels .entry) i)) s r ⌝ }
 {
-    let look = scan_low(low, s, at);
-    let Look::Rest = look else {
-        return look;
-    };
+    if i == 0 {
+        let look = scan_low(within, s, at);
+        let Look::Rest = look else {
+            return look;
+        };
+        return scan(whole, at, s);
+    }
     let look = scan(whole, at, s);
     let Look::Rest = look else {
         return look;
     };
-    scan_states(states, levels, i, s, at)
+    scan_states(within, levels, i, s, at)
+}
+
+// Whether the state is none of R(i).
+pub fn is_outside(within: &[u64], levels: &[u32], i: u32, s: u64) -> bool
+    ensures { λ r. ⌜ ((whole : List ℕ) → r ≡ outside (region (now (within .entry)) whole (now (levels .entry)) i) (s % 2 ^ 32)) ⌝ }
+{
+    let state = s % HALF;
+    if i == 0 {
+        return !system::list_true(
+            within,
+            Mask {
+                pair: state,
+                wires: 0,
+            },
+        );
+    }
+    is_excluded(within, levels, i, state)
 }

@@ -4,6 +4,7 @@ pub mod Operations
 pub mod OneBit
 pub mod Halves
 pub mod Order
+pub mod Words
 pub mod Ends
 pub mod Count
 pub mod Somewhere

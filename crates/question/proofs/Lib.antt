@@ -4,6 +4,7 @@ pub mod Resolution
 pub mod Pairs
 pub mod Fulfilled
 pub mod Solving
+pub mod Wide
 pub mod Along
 pub mod Walk
 pub mod Ranges

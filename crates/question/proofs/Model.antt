@@ -71,13 +71,13 @@ module _ (y : System) (states levels : List ℕ) (n≤32 : y .n ≤ 32)
 
   -- the question of steps 1 and 2
   pub bad-asked : (i : ℕ)
-      → badIn (y .n) (y .start) (y .bad) states levels i 0 ≡ least (model y .size) (wanted (model y) i (stored states levels) look)
+      → badIn (y .n) (y .w) (y .start) (y .bad) states levels i 0 ≡ least (model y .size) (wanted (model y) i (stored states levels) look)
   unfolding badIn wanted model
   bad-asked i = same-least i (model y .bad)
 
   -- the question of steps 3 and 4, in each phase that asks for a state of R(i) which steps to t
   pub step-asked : (N i t : ℕ) (p : Phase)
       → wanted (model y) N (stored states levels) p ≡ (λ s. R (model y) (levelOf (stored states levels)) i s && model y .step s t)
-      → stepIn (y .n) (y .start) (y .step) states levels i t 0 ≡ least (model y .size) (wanted (model y) N (stored states levels) p)
+      → stepIn (y .n) (y .w) (y .start) (y .step) states levels i t 0 ≡ least (model y .size) (wanted (model y) N (stored states levels) p)
   unfolding stepIn model
   step-asked N i t p e = rw e (same-least i (λ s. model y .step s t))

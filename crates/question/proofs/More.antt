@@ -1,4 +1,4 @@
--- One bit more is settled, by a choice. At its position k all is settled then, and elsewhere what was; so a pair that agrees with more settled bits
+-- One bit more is settled, by a choice. At its position k all is settled then, and elsewhere what was; so a word that agrees with more settled bits
 -- agrees with fewer, and one that has the value at k agrees with more. Assumes nothing.
 use Prim.Native.Nat.{ℕ, _^_, _<_}
 use mathlib.Core.Logic.{⊎-elim}
@@ -52,7 +52,7 @@ module _ {width : ℕ} {s : Setting} {b x : ℕ} (C : Choice width s b x) where
         most = ones-le width (bitOr (s .bits) b) (more-sound ok .fits);
       }
 
-  -- a pair that agrees with more settled bits agrees with fewer
+  -- a word that agrees with more settled bits agrees with fewer
   pub agrees-fewer : (w : ℕ) → Agrees (more s b x) w → Agrees s w
   agrees-fewer w g =
       agree-by (s .bits) w (s .values)
@@ -61,7 +61,7 @@ module _ {width : ℕ} {s : Setting} {b x : ℕ} (C : Choice width s b x) where
       (λ f. agree-at (bitOr (s .bits) b) w (bitOr (s .values) x) g j (settled-other j f ∙ o) ∙ value-other C j f)
       (eq-or-ne j k))
 
-  -- a pair that has the value at k agrees with more
+  -- a word that has the value at k agrees with more
   pub agrees-more : (w : ℕ) → Agrees s w → bit w k ≡ bit x k → Agrees (more s b x) w
   agrees-more w g e =
       agree-by (bitOr (s .bits) b) w (bitOr (s .values) x)

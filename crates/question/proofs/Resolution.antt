@@ -1,8 +1,8 @@
--- One bit, given one value and then the other. What fails for both values fails, for what the two reasons rest on without the bit: a pair has
+-- One bit, given one value and then the other. What fails for both values fails, for what the two reasons rest on without the bit: a word has
 -- one value there or the other, and in either case it agrees with what that reason rests on. A reason that does without the bit stands by itself.
 -- Forced bits and tried bits are resolved by the same law. Assumes nothing.
 use Prim.Native.Nat.{ℕ, _+_, _-_, _^_, _≤_, _<_}
-use mathlib.Core.Bool.{Bool, false}
+use mathlib.Core.Bool.{Bool, true, false}
 use mathlib.Core.Logic.{_⊎_, inl, inr, ⊎-elim}
 use mathlib.Core.Path.{_≡_, sym, _∙_}
 use native.Mathlib.Nat.{lt-of-le-of-lt}
@@ -20,6 +20,16 @@ use Rattle.look.proofs.Agreement.{agree-at, agree-by, among-at, among-by, among
 use Rattle.look.proofs.Values.{Choice, b-here, b-other, value-here, value-other, other, other-here}
 use Rattle.question.specs.Reason.{Sound, resolved}
 use Rattle.question.proofs.More.{b-fits, settled-other, more-sound}
+
+-- the first reason does without the bit, or both are taken
+module _ (width x y b : ℕ) where
+  pub resolved-first : eqb (bitAnd x b) 0 ≡ true → resolved width x y b ≡ x
+  unfolding resolved
+  resolved-first e = rw (e, resolved)
+
+  pub resolved-both : eqb (bitAnd x b) 0 ≡ false → resolved width x y b ≡ bitAnd (bitOr x y) (2 ^ width - 1 - b)
+  unfolding resolved
+  resolved-both e = rw (e, resolved)
 
 -- Bit b is open, and x is a value for it; P is the condition.
 module _ {width : ℕ} {s : Setting} {b x : ℕ} (C : Choice width s b x) (P : ℕ → Bool) where
@@ -50,7 +60,7 @@ module _ {width : ℕ} {s : Setting} {b x : ℕ} (C : Choice width s b x) (P : �
             (eq-or-ne j k)));
       }
 
-  -- a reason for the value, and a pair that has it
+  -- a reason for the value, and a word that has it
   pub reason-with : (a m : ℕ) → Reason P (more s b x) a → ((j : ℕ) → (j ≡ k → ⊥) → bit a j ≤ bit m j) → (w : ℕ) → Agree m w (s .values)
       → bit w k ≡ bit x k → P w ≡ false
   reason-with a m r l w g e =
@@ -74,7 +84,7 @@ module _ {width : ℕ} {s : Setting} {b x : ℕ} (ok : Sound width s) (C : Choic
   unfolding both
   both-at j = less width (bitOr y z) b j (or-lt width y z (fits y (ry .among)) (fits z (rz .among))) (b-fits (C .free))
 
-  -- a pair has the one value or the other
+  -- a word has the one value or the other
   eq-or-other : (v a c : ℕ) → v ≤ 1 → c + a ≡ 1 → (v ≡ a) ⊎ (v ≡ c)
   eq-or-other v a c h e = ⊎-elim inl (λ f. inr (omega (arith, f))) (eq-or-ne v a)
 
@@ -100,8 +110,8 @@ module _ {width : ℕ} {s : Setting} {b x : ℕ} (ok : Sound width s) (C : Choic
       }
 
   pub resolved-reason : Reason P s (resolved width y z b)
-  unfolding resolved both
+  unfolding both
   resolved-reason =
       test (eqb (bitAnd y b) 0)
-      (λ e. rw (e, resolved) (reason-without C P y (without C P y (eqb-true (bitAnd y b) 0 e)) ry))
-      (λ e. rw (e, resolved) both-reason)
+      (λ e. rw (resolved-first width y z b e) (reason-without C P y (without C P y (eqb-true (bitAnd y b) 0 e)) ry))
+      (λ e. rw (resolved-both width y z b e) both-reason)

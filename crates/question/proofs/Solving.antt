@@ -1,16 +1,18 @@
 -- What is said of settled bits, from what is known with one bit more settled, by force or by trial, and with no bit open. P is the condition. Assumes
 -- nothing.
-use Prim.Native.Nat.{ℕ, _-_, _^_, _<_}
+use Prim.Native.Nat.{ℕ, _-_, _^_, _≤_, _<_}
 use mathlib.Core.Bool.{Bool, true, false}
-use mathlib.Core.Logic.{inl, inr}
+use mathlib.Core.Logic.{inl, inr, ⊎-elim}
 use mathlib.Core.Path.{_≡_, refl, _∙_}
 use native.Mathlib.Nat.{lt-of-le-of-lt, mod-eq-of-lt}
 use native.Mathlib.Omega.{arith}
 use lib.Bits.{bitAnd, and-comm, and-mask}
-use lib.Pow.{pow-pos}
+use lib.Pow.{pow-pos, ones-lt}
+use Rattle.base.proofs.Tests.{lt-or-ge}
 use Rattle.masks.specs.Bit.{bit}
+use Rattle.masks.proofs.Bits.{bit-past, at-bit}
 use Rattle.masks.proofs.Operations.{full}
-use Rattle.look.specs.Reason.{Agree, Open, Reason, Forces, more, Setting}
+use Rattle.look.specs.Reason.{Agree, Among, Open, Reason, Forces, more, Setting}
 use Rattle.look.proofs.Agreement.{agree-at, among-at, among-by, among-le}
 use Rattle.look.proofs.Values.{Choice}
 use Rattle.question.specs.Reason.{Sound, Passing, openOf}
@@ -22,7 +24,7 @@ use Rattle.question.proofs.Pairs.{Same}
 pub no-value : {width : ℕ} {s : Setting} {b : ℕ} → Sound width s → (O : Open width s b) → bit (s .values) (O .k) ≡ 0
 no-value {s = s} ok O = omega (arith, among-at (s .values) (s .bits) (ok .within) (O .k), O .unsettled)
 
--- a pair that passes with one bit more settled
+-- a word that passes with one bit more settled
 pub more-passes : {width : ℕ} {s : Setting} {b x : ℕ} → Choice width s b x → (P : ℕ → Bool) (w : ℕ) → Passing width P (more s b x) w
     → Passing width P s w
 more-passes C P w p = record { fits = p .fits; agrees = agrees-fewer C w (p .agrees); true-of = p .true-of }
@@ -61,9 +63,9 @@ some-open width s h =
 
 -- ---- no bit is open
 module _ (width : ℕ) (P : ℕ → Bool) (s : Setting) (ok : Sound width s) where
-  pub full-pair : P (s .values) ≡ true → Passing width P s (s .values)
+  pub full-passes : P (s .values) ≡ true → Passing width P s (s .values)
   unfolding Agree
-  full-pair e =
+  full-passes e =
       record { fits = lt-of-le-of-lt (among-le (s .values) (s .bits) (ok .within)) (ok .fits); agrees = refl; true-of = e }
 
   pub full-nothing : ((w v : ℕ) → Same width w v → P w ≡ P v) → s .bits ≡ 2 ^ width - 1 → P (s .values) ≡ false → Reason P s (s .bits)
@@ -72,3 +74,11 @@ module _ (width : ℕ) (P : ℕ → Bool) (s : Setting) (ok : Sound width s) whe
         among = among-by (s .bits) (s .bits) (λ j. omega arith);
         why = λ w g. same w (s .values) (λ j l. agree-at (s .bits) w (s .values) g j (rw all (full width j l))) ∙ e;
       }
+
+  -- the state's bits are settled then
+  pub state-among : (k : ℕ) → k ≤ width → s .bits ≡ 2 ^ width - 1 → Among (2 ^ k - 1) (s .bits)
+  state-among k h all =
+      among-by (2 ^ k - 1) (s .bits) (λ j. ⊎-elim
+      (λ l. omega (arith, full k j l, at-bit j all, full width j (omega arith)))
+      (λ g. omega (arith, bit-past k (2 ^ k - 1) j (ones-lt k) g))
+      (lt-or-ge j k))

@@ -1,7 +1,7 @@
--- The walk to the least front, from its highest open bit down. Bits that are 0 in the pair in hand, or in another that was found, are settled at 0:
--- the front of every pair with a 1 there lies above that of all that agree from now on, since all bits of the front above it are settled. A bit for
--- which no pair with a 0 was found is settled at 1, and no pair that passes is lost. Where all bits of the front are settled one front is left, and
--- no pair that passes has a lower one. Assumes nothing.
+-- The walk to the least front, from its highest open bit down. Bits that are 0 in the word in hand, or in another that was found, are settled at 0:
+-- the front of every word with a 1 there lies above that of all that agree from now on, since all bits of the front above it are settled. A bit for
+-- which no word with a 0 was found is settled at 1, and no word that passes is lost. Where all bits of the front are settled one front is left, and
+-- no word that passes has a lower one. Assumes nothing.
 use Prim.Native.Nat.{ℕ, suc, _-_, _^_, _≤_, _<_}
 use mathlib.Core.Bool.{Bool, false}
 use mathlib.Core.Logic.{inl, inr, ⊎-elim}
@@ -58,7 +58,7 @@ module _ (last front : ℕ) (s : Setting) (ff : front < 2 ^ suc last) (fs : s .b
       at j = less (suc last) front (s .bits) j ff fs
 
 -- ---- one bit of the walk
-module _ {width : ℕ} {P : ℕ → Bool} {front : ℕ} {s : Setting} {pair b : ℕ} (D : Stands width P s pair) (T : TopOpen width front s b) where
+module _ {width : ℕ} {P : ℕ → Bool} {front : ℕ} {s : Setting} {word b : ℕ} (D : Stands width P s word) (T : TopOpen width front s b) where
   abbrev k : ℕ
   k = T .free .k
 
@@ -68,11 +68,11 @@ module _ {width : ℕ} {P : ℕ → Bool} {front : ℕ} {s : Setting} {pair b : 
   abbrev with-one : Choice width s b b
   with-one = at-one (D .sound) (T .free)
 
-  -- a pair that agrees, and has a 0 there
+  -- a word that agrees, and has a 0 there
   more-zero : (w : ℕ) → Agrees s w → bit w k ≡ 0 → Agrees (more s b 0) w
   more-zero w g z = agrees-more with-zero w g (z ∙ sym (bit-of-zero k))
 
-  -- all of the front above k is settled, so of pairs that agree one with a 1 there has a front above that of one with a 0
+  -- all of the front above k is settled, so of words that agree one with a 1 there has a front above that of one with a 0
   above : (w x : ℕ) → Agrees s w → bit w k ≡ 1 → Agrees (more s b 0) x → bitAnd x front < bitAnd w front
   above w x g o a =
       bit-order k (bitAnd x front) (bitAnd w front)
@@ -93,7 +93,7 @@ module _ {width : ℕ} {P : ℕ → Bool} {front : ℕ} {s : Setting} {pair b : 
   pub descends-zero : (w : ℕ) → Passing width P (more s b 0) w → Descends width P front s (more s b 0) w
   descends-zero w p =
       record {
-        stands = record { sound = more-sound with-zero (D .sound); pair = p };
+        stands = record { sound = more-sound with-zero (D .sound); word = p };
         falls = more-falls with-zero (D .sound);
         keeps = record {
           narrower = agrees-fewer with-zero;
@@ -101,26 +101,26 @@ module _ {width : ℕ} {P : ℕ → Bool} {front : ℕ} {s : Setting} {pair b : 
         };
       }
 
-  -- the pair in hand has a 0 there
-  pub in-hand : bitAnd pair b ≡ 0 → Passing width P (more s b 0) pair
+  -- the word in hand has a 0 there
+  pub in-hand : bitAnd word b ≡ 0 → Passing width P (more s b 0) word
   in-hand e =
       record {
-        fits = D .pair .fits;
-        agrees = more-zero pair (D .pair .agrees) (and-pow pair k .0 (rw (T .free .is) at e));
-        true-of = D .pair .true-of;
+        fits = D .word .fits;
+        agrees = more-zero word (D .word .agrees) (and-pow word k .0 (rw (T .free .is) at e));
+        true-of = D .word .true-of;
       }
 
   -- the bit is settled at 1
-  pub descends-one : (m : ℕ) → Reason P (more s b 0) m → (bitAnd pair b ≡ 0 → ⊥)
-      → Descends width P front s (more s b b) pair
+  pub descends-one : (m : ℕ) → Reason P (more s b 0) m → (bitAnd word b ≡ 0 → ⊥)
+      → Descends width P front s (more s b b) word
   descends-one m r f =
       record {
         stands = record {
           sound = more-sound with-one (D .sound);
-          pair = record {
-            fits = D .pair .fits;
-            agrees = more-one pair (D .pair .agrees) (λ z. f (rw (T .free .is) (and-pow pair k .1 z)));
-            true-of = D .pair .true-of;
+          word = record {
+            fits = D .word .fits;
+            agrees = more-one word (D .word .agrees) (λ z. f (rw (T .free .is) (and-pow word k .1 z)));
+            true-of = D .word .true-of;
           };
         };
         falls = more-falls with-one (D .sound);
@@ -136,7 +136,7 @@ module _ {width : ℕ} {P : ℕ → Bool} {front : ℕ} {s : Setting} {pair b : 
       fails : (t : ℕ) → Agrees (more s b 0) t → P t ≡ false
       fails t g = r .why t (agree-among m (bitOr (s .bits) b) t (bitOr (s .values) 0) (r .among) g)
 
--- ---- the whole walk, from s to r, where it has the pair w in hand
+-- ---- the whole walk, from s to r, where it has the word w in hand
 pub record Walked (width : ℕ) (P : ℕ → Bool) (front : ℕ) (s r : Setting) (w : ℕ) : Type 0 where
   pub stands : Stands width P r w
   pub keeps : Keeps P front s r
@@ -144,7 +144,7 @@ pub record Walked (width : ℕ) (P : ℕ → Bool) (front : ℕ) (s r : Setting)
 pub walked-none : (width : ℕ) (P : ℕ → Bool) (front : ℕ) (s : Setting) (w : ℕ) → Sound width s → Passing width P s w
     → Walked width P front s s w
 walked-none width P front s w ok p =
-    record { stands = record { sound = ok; pair = p }; keeps = record { narrower = λ x g. g; kept = λ t e g. inl g } }
+    record { stands = record { sound = ok; word = p }; keeps = record { narrower = λ x g. g; kept = λ t e g. inl g } }
 
 module _ {width : ℕ} {P : ℕ → Bool} {front : ℕ} {s r : Setting} {w : ℕ} (W : Walked width P front s r w) where
   pub walked-more : {q : Setting} {v : ℕ} → Descends width P front r q v → Walked width P front s q v
@@ -161,18 +161,18 @@ module _ {width : ℕ} {P : ℕ → Bool} {front : ℕ} {s r : Setting} {w : ℕ
         };
       }
 
-  -- no bit of the front is open: the pair's front is the least
+  -- no bit of the front is open: the word's front is the least
   pub walked-all : front < 2 ^ width → openOf width front r ≡ 0 → LeastWord width P front s w
   unfolding Agree
   walked-all ff e =
       record {
-        pair = record { fits = p .fits; agrees = W .keeps .narrower w (p .agrees); true-of = p .true-of };
+        word = record { fits = p .fits; agrees = W .keeps .narrower w (p .agrees); true-of = p .true-of };
         least = λ t g q.
             ⊎-elim (λ a. omega (arith, same t a, same w (p .agrees))) (λ b. omega (arith, b w (p .agrees))) (W .keeps .kept t q g);
       }
     where
       p : Passing width P r w
-      p = W .stands .pair
+      p = W .stands .word
 
       all-settled : Among front (r .bits)
       all-settled =

@@ -1,62 +1,81 @@
--- What the private contracts say of the code's own types, in terms of Reason. Words have the width of Condition.
-use Prim.Native.Nat.{ℕ, _-_, _^_, _<_}
+-- What the private contracts say of the code's own types, in terms of Reason. A mask is a word.
+use Prim.Native.Nat.{ℕ, _+_, _-_, _^_, _≤_, _<_}
 use mathlib.Core.Bool.{Bool}
 use mathlib.Core.List.{List}
 use mathlib.Core.Path.{_≡_}
-use Rattle.look.specs.Condition.{width}
-use Rattle.look.specs.Reason.{Reason, Forces, more}
+use lib.Bits.{bitAnd}
+use lib.Count.{ones}
+use Rattle.masks.specs.Bit.{bit}
+use Rattle.masks.specs.Word.{width, wordOf}
+use Rattle.look.specs.Reason.{Reason, Forces}
 use Rattle.look.specs.Look.{setting}
 use Rattle.look.specs.declared.Settled.{Settled}
 use Rattle.question.specs.Reason.{Sound, LongEnough, Passing, Unfinished, Descends, LeastWord}
 use Rattle.question.specs.declared.Descent.{Descent}
 use Rattle.question.specs.declared.engine.Found.{Found}
-use Rattle.question.specs.declared.engine.Found.the-variants.{Pair, Nothing}
+use Rattle.question.specs.declared.engine.Found.the-variants.{Word, Nothing}
 use Rattle.question.specs.declared.engine.Said.{Said}
-use Rattle.question.specs.declared.engine.Said.the-variants.{Pair as Pair′, Failed, Forced}
+use Rattle.question.specs.declared.engine.Said.the-variants.{Word as Word′, Failed, Forced}
 
 -- the invariant of the setting that the code holds
 abbrev pub Valid : Settled → Type 0
 Valid s = Sound width (setting s)
+
+-- no more bits are open than a state and the wires have
+abbrev pub Few : Settled → Type 0
+Few s = width - ones (setting s .bits) ≤ 96
+
+-- the invariant, and few bits are open
+pub record Starts (s : Settled) : Type 0 where
+  pub valid : Valid s
+  pub few : Few s
 
 -- the invariant, and the trail is long enough
 pub record Begins (s : Settled) (trail : List ℕ) : Type 0 where
   pub valid : Valid s
   pub long : LongEnough width (setting s) trail
 
--- the same, and some bit is open
+-- some bit is open
+abbrev pub Unfull : Settled → Type 0
+Unfull s = bitAnd (s .bits .pair) (s .bits .wires) ≡ 2 ^ 64 - 1 → ⊥
+
+-- the word is one wire, of those that `wires` has
+pub record OneOf (wires word : ℕ) : Type 0 where
+  pub k : ℕ
+  pub low : k < 64
+  pub here : bit wires k ≡ 1
+  pub is : word ≡ 2 ^ (64 + k)
+
+-- the invariant, the trail is long enough, and some bit is open
 pub record HasOpen (s : Settled) (trail : List ℕ) : Type 0 where
   pub begins : Begins s trail
-  pub some : s .bits < 2 ^ width - 1
+  pub some : Unfull s
 
 -- the invariant, and no bit is open
 pub record Full (s : Settled) : Type 0 where
   pub valid : Valid s
-  pub all : s .bits ≡ 2 ^ width - 1
+  pub all : setting s .bits ≡ 2 ^ width - 1
 
--- one bit more is settled, b at `value`
-abbrev pub settledAt : Settled → ℕ → ℕ → Settled
-settledAt s b value = record { bits = more (setting s) b value .bits; values = more (setting s) b value .values }
-
--- some pair, or nothing and the settled bits that this rests on
+-- some word, or nothing and the settled bits that this rests on
 abbrev pub Solved : (ℕ → Bool) → Settled → Found → Type 0
-Solved P s (Pair w) = Passing width P (setting s) w
-Solved P s (Nothing reason) = Reason P (setting s) reason
+Solved P s (Word w) = Passing width P (setting s) (wordOf w)
+Solved P s (Nothing reason) = Reason P (setting s) (wordOf reason)
 
 -- what a look, a test or a try may say
 abbrev pub Says : (ℕ → Bool) → Settled → Said → Type 0
-Says P s (Pair′ w) = Passing width P (setting s) w
-Says P s (Failed reason) = Reason P (setting s) reason
-Says P s (Forced reason b value next) = Forces width P (setting s) reason b value
+Says P s (Word′ w) = Passing width P (setting s) (wordOf w)
+Says P s (Failed reason) = Reason P (setting s) (wordOf reason)
+Says P s (Forced reason b value next) = Forces width P (setting s) (wordOf reason) (wordOf b) (wordOf value)
 
 -- the walk stands at d, and goes on
 abbrev pub GoesOn : (ℕ → Bool) → ℕ → Descent → Type 0
-GoesOn P front d = Unfinished width P front (setting (d .settled)) (d .pair)
+GoesOn P front d = Unfinished width P front (setting (d .settled)) (wordOf (d .word))
 
 -- one bit of the walk, from d to r
 abbrev pub Walks : (ℕ → Bool) → ℕ → Descent → Descent → Type 0
-Walks P front d r = Descends width P front (setting (d .settled)) (setting (r .settled)) (r .pair)
+Walks P front d r = Descends width P front (setting (d .settled)) (setting (r .settled)) (wordOf (r .word))
 
--- a pair with the least front, or nothing and the settled bits that this rests on
+-- a word with the least front, or nothing and the settled bits that this rests on
 abbrev pub LeastFront : (ℕ → Bool) → ℕ → Settled → Found → Type 0
-LeastFront P front s (Pair w) = LeastWord width P front (setting s) w
-LeastFront P front s (Nothing reason) = Reason P (setting s) reason
+LeastFront P front s (Word w) = LeastWord width P front (setting s) (wordOf w)
+LeastFront P front s (Nothing reason) = Reason P (setting s) (wordOf reason)

@@ -1,107 +1,133 @@
-// The engine: `settle` settles forced bits and `attempt` tries an open one, each by the other. They answer some pair that fulfils the condition, or
+// The engine: `settle` settles forced bits and `attempt` tries an open one, each by the other. They answer some word that fulfils the condition, or
 // nothing and the settled bits that this rests on; a tried bit that is not among them is not tried the other way. Only a tried bit takes a call.
 use crate::trail::note;
 use crate::trail::resolve_along;
-use look::HALF;
+use look::ALL;
 use look::Look;
+use look::STATE;
 use look::Settled;
 use look::forced;
-use look::is_excluded;
+use look::is_outside;
+use masks::Mask;
 ghost use mathlib.Core.Path.{_≡_};
 ghost use Prim.Native.Nat.{_<_};
-ghost use Rattle.look.specs.Condition.{width, lent, fulfils};
+ghost use Rattle.masks.specs.Word.{width, wordOf};
+ghost use Rattle.look.specs.Reason.{Open, more};
+ghost use Rattle.look.specs.Condition.{lent, fulfils};
 ghost use Rattle.look.specs.Look.{setting};
 ghost use Rattle.question.specs.Reason.{openOf, TopOpen};
-ghost use Rattle.question.specs.Engine.{Begins, HasOpen, Full, settledAt, Solved, Says};
+ghost use Rattle.question.specs.Engine.{Unfull, OneOf, Begins, HasOpen, Full, Solved, Says};
 
-// Some pair, or nothing and the settled bits that this rests on.
+// Some word, or nothing and the settled bits that this rests on.
 pub(crate) enum Found {
-    Pair(u64),
-    Nothing(u64),
+    Word(Mask),
+    Nothing(Mask),
 }
 
-// What a look, a test or a try says of settled bits: some pair that agrees with them fulfils the condition; or none does, for these of them; or an open
+// What a look, a test or a try says of settled bits: some word that agrees with them fulfils the condition; or none does, for these of them; or an open
 // bit is forced to `value`, since the other value fails for `reason`, and looks go on at `next`.
 enum Said {
-    Pair(u64),
-    Failed(u64),
+    Word(Mask),
+    Failed(Mask),
     Forced {
-        reason: u64,
-        bit: u64,
-        value: u64,
+        reason: Mask,
+        bit: Mask,
+        value: Mask,
         next: usize,
     },
 }
 
-// All 64 positions.
-const ALL: u64 = 0xFFFF_FFFF_FFFF_FFFF;
-
-// Whether a pair fulfils the condition.
-fn fulfilled(low: &[u64], whole: &[u64], states: &[u64], levels: &[u32], i: u32, pair: u64) -> bool
-    ensures { λ r. ⌜ r ≡ fulfils (lent (low .entry) (whole .entry) (states .entry) (levels .entry) i) pair ⌝ }
-{
-    let state = pair % HALF;
-    if is_excluded(states, levels, i, state) {
-        return false;
-    }
-    if !system::list_true(low, state) {
-        return false;
-    }
-    system::list_true(whole, pair)
-}
-
 // One bit more is settled, at 0 or at the bit itself.
-pub(crate) fn settle_at(s: Settled, bit: u64, value: u64) -> Settled
-    ensures { λ r. ⌜ r ≡ settledAt s bit value ⌝ }
+pub(crate) fn settle_at(s: Settled, bit: Mask, value: Mask) -> Settled
+    ensures { λ r. ⌜ setting r ≡ more (setting s) (wordOf bit) (wordOf value) ⌝ }
 {
     let Settled { bits, values } = s;
     Settled {
-        bits: bits | bit,
-        values: values | value,
+        bits: masks::or(bits, bit),
+        values: masks::or(values, value),
     }
 }
 
-// With no bit open: the pair that the values are, or nothing.
-fn test(low: &[u64], whole: &[u64], states: &[u64], levels: &[u32], i: u32, s: Settled) -> Said
+// No position: the value of a bit that is settled at 0.
+pub(crate) const NONE: Mask = Mask { pair: 0, wires: 0 };
+
+// With no bit open: the word that the values are, or nothing. A failure in R(i) rests on the state's bits alone.
+fn test(within: &[u64], whole: &[u64], levels: &[u32], i: u32, s: Settled) -> Said
     requires { ⌜ Full s ⌝ }
-    ensures { λ r. ⌜ Says (fulfils (lent (low .entry) (whole .entry) (states .entry) (levels .entry) i)) s r ⌝ }
+    ensures { λ r. ⌜ Says (fulfils (lent (within .entry) (whole .entry) (levels .entry) i)) s r ⌝ }
 {
     let Settled { bits, values } = s;
-    if fulfilled(low, whole, states, levels, i, values) {
-        return Said::Pair(values);
+    if is_outside(within, levels, i, values.pair) {
+        return Said::Failed(Mask {
+            pair: STATE,
+            wires: 0,
+        });
+    }
+    if system::list_true(whole, values) {
+        return Said::Word(values);
     }
     Said::Failed(bits)
 }
 
-// The highest open bit of the front, as a mask of its own.
-pub(crate) fn top_open(front: u64, s: Settled) -> u64
+// The highest open bit of the front, positions of the pair, as a mask of its own.
+pub(crate) fn top_open(front: u64, s: Settled) -> Mask
     requires { ⌜ 0 < openOf width front (setting s) ⌝ }
-    ensures { λ r. ⌜ TopOpen width front (setting s) r ⌝ }
+    ensures { λ r. ⌜ TopOpen width front (setting s) (wordOf r) ⌝ }
 {
     let Settled { bits, values: _ } = s;
-    1u64 << (63 - u64::leading_zeros(front & !bits))
+    let open = front & !bits.pair;
+    Mask {
+        pair: 1u64 << (63 - u64::leading_zeros(open)),
+        wires: 0,
+    }
 }
 
-// Settles forced bits, and notes each on the trail; with none forced it tries an open bit, and with none open it tests the pair. What fails rests on bits
+// The lowest open wire of a mask, as a mask of its own.
+fn lowest_wire(wires: u64) -> Mask
+    requires { ⌜ 0 < wires ⌝ }
+    ensures { λ r. ⌜ OneOf wires (wordOf r) ⌝ }
+{
+    Mask {
+        pair: 0,
+        wires: 1u64 << u64::trailing_zeros(wires),
+    }
+}
+
+// The bit to try: of the wires that are tried first the lowest, then of the pair's bits the highest, then of the other wires the lowest. Any open bit is
+// right.
+fn pick(first: u64, s: Settled) -> Mask
+    requires { ⌜ Unfull s ⌝ }
+    ensures { λ r. ⌜ Open width (setting s) (wordOf r) ⌝ }
+{
+    let Settled { bits, values: _ } = s;
+    let near = first & !bits.wires;
+    if near != 0 {
+        return lowest_wire(near);
+    }
+    if bits.pair != ALL {
+        return top_open(ALL, s);
+    }
+    lowest_wire(!bits.wires)
+}
+
+// Settles forced bits, and notes each on the trail; with none forced it tries an open bit, and with none open it tests the word. What fails rests on bits
 // that were settled before, so its reason is resolved along the trail.
 pub(crate) fn settle(
-    low: &[u64],
+    within: &[u64],
     whole: &[u64],
-    states: &[u64],
     levels: &[u32],
     i: u32,
     s: Settled,
-    at: usize,
     trail: &mut [u64],
 ) -> Found
     requires { ⌜ Begins s (now trail) ⌝ }
-    ensures { λ r. ⌜ Solved (fulfils (lent (low .entry) (whole .entry) (states .entry) (levels .entry) i)) s r ⌝ }
+    ensures { λ r. ⌜ Solved (fulfils (lent (within .entry) (whole .entry) (levels .entry) i)) s r ⌝ }
 {
     let mut r = s;
-    let mut next = at;
+    let mut next = 0;
     let mut noted = 0;
     loop {
-        let look = forced(low, whole, states, levels, i, r, next);
+        let look = forced(within, whole, levels, i, r, next);
         let said = match look {
             Look::Failed(reason) => Said::Failed(reason),
             Look::Forced {
@@ -116,25 +142,17 @@ pub(crate) fn settle(
                 next: behind,
             },
             Look::Rest => {
-                if r.bits == ALL {
-                    test(low, whole, states, levels, i, r)
+                let bits = r.bits;
+                if bits.pair & bits.wires == ALL {
+                    test(within, whole, levels, i, r)
                 } else {
-                    attempt(
-                        low,
-                        whole,
-                        states,
-                        levels,
-                        i,
-                        r,
-                        next,
-                        &mut trail[2 * noted..],
-                    )
+                    attempt(within, whole, levels, i, r, &mut trail[4 * noted..])
                 }
             }
         };
         match said {
-            Said::Pair(pair) => {
-                return Found::Pair(pair);
+            Said::Word(word) => {
+                return Found::Word(word);
             }
             Said::Failed(reason) => {
                 return Found::Nothing(resolve_along(trail, noted, reason));
@@ -154,42 +172,31 @@ pub(crate) fn settle(
     }
 }
 
-// Tries the highest open bit at 0. Refuted, it is forced to 1, unless the reason does without it: then 1 fails for the same.
+// Tries an open bit at 0; which wires are tried first stands at the trail's end, a number less for each call. Refuted, it is forced to 1, unless the reason does without it: then 1 fails for the same.
 fn attempt(
-    low: &[u64],
+    within: &[u64],
     whole: &[u64],
-    states: &[u64],
     levels: &[u32],
     i: u32,
     s: Settled,
-    at: usize,
     trail: &mut [u64],
 ) -> Said
     requires { ⌜ HasOpen s (now trail) ⌝ }
-    ensures { λ r. ⌜ Says (fulfils (lent (low .entry) (whole .entry) (states .entry) (levels .entry) i)) s r ⌝ }
+    ensures { λ r. ⌜ Says (fulfils (lent (within .entry) (whole .entry) (levels .entry) i)) s r ⌝ }
 {
-    let bit = top_open(ALL, s);
-    let f = settle(
-        low,
-        whole,
-        states,
-        levels,
-        i,
-        settle_at(s, bit, 0),
-        at,
-        trail,
-    );
+    let bit = pick(trail[trail.len() - 1], s);
+    let f = settle(within, whole, levels, i, settle_at(s, bit, NONE), trail);
     match f {
-        Found::Pair(pair) => Said::Pair(pair),
+        Found::Word(word) => Said::Word(word),
         Found::Nothing(reason) => {
-            if reason & bit == 0 {
+            if masks::is_empty(masks::and(reason, bit)) {
                 return Said::Failed(reason);
             }
             Said::Forced {
                 reason,
                 bit,
                 value: bit,
-                next: at,
+                next: 0,
             }
         }
     }

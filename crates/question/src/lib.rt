@@ -1,28 +1,46 @@
-// The question: the least state of R(i), not below a given number, that is bad, or that can step to a given state. A pair has the state in its low half and the same bits
-// one step later in its high half; what is no free bit of the state is settled from the start. The engine finds some pair; a walk above it goes over
-// the bits of a front, today the state's, and ends at a pair whose front is least. Bits outside the front may stay open.
+// The question: the least state of R(i), not below a given number, that is bad, or that can step to a given state, by some setting of the wires. A word is a
+// pair, the state in its low half and the same bits one step later in its high half, and the wires; what is no free bit or wire is settled from the start.
+// The engine finds some word; a walk above it goes over the bits of a front, today the state's, and ends at a word whose front is least. Bits outside the
+// front may stay open.
 
-// engine is engine.rt: some pair, or nothing and why.
+// engine is engine.rt: some word, or nothing and why.
 mod engine;
 // trail is trail.rt: forced bits and their reasons.
 mod trail;
 
 use engine::Found;
+use engine::NONE;
 use engine::settle;
 use engine::settle_at;
 use engine::top_open;
 use look::HALF;
 use look::STATE;
 use look::Settled;
+use masks::Mask;
 ghost use mathlib.Core.Path.{_≡_};
-ghost use Prim.Native.Nat.{_+_, _-_, _^_, min, _<_};
-ghost use Rattle.look.specs.Condition.{width, lent, fulfils};
+ghost use Prim.Native.Nat.{_+_, _-_, _%_, _^_, min, _<_};
+ghost use lib.Dec.{ltb};
+ghost use Rattle.masks.specs.Word.{width};
+ghost use Rattle.system.specs.System.{someTrue, pair};
+ghost use Rattle.look.specs.Look.{setting};
+ghost use Rattle.look.specs.Condition.{lent, fulfils};
 ghost use Rattle.question.specs.Question.{answered, badIn, stepIn};
+ghost use Rattle.question.specs.Reason.{openOf};
 ghost use Rattle.question.specs.Asked.{askedIn, asked, Block};
-ghost use Rattle.question.specs.Engine.{Valid, GoesOn, Walks, LeastFront};
+ghost use Rattle.question.specs.Engine.{Few, Starts, GoesOn, Walks, LeastFront};
 
-// Two numbers for each of the 64 positions, since no bit is noted twice.
-const TRAIL: usize = 2 * 64;
+// A state has 32 bits at most, and there are 64 wires at most.
+const MOST_OPEN: usize = 96;
+
+// Four numbers for each bit that can be open, since no bit is noted twice; and at the end the wires that are tried first.
+const TRAIL: usize = 4 * MOST_OPEN + 1;
+
+// What a question leaves free: n bits of the state and w wires; and the wires that it tries before the state's bits, which may be any.
+pub struct Free {
+    pub n: u32,
+    pub w: u32,
+    pub first: u64,
+}
 
 // A state, or that none exists.
 pub enum Answer {
@@ -30,71 +48,79 @@ pub enum Answer {
     Nothing,
 }
 
-// Where the walk to the least front stands: what it has settled, and a pair that agrees with it.
+// Where the walk to the least front stands: what it has settled, and a word that agrees with it.
 struct Descent {
     settled: Settled,
-    pair: u64,
+    word: Mask,
 }
 
-// One bit of the walk, the highest of the front that it has not settled: 0 if the pair in hand or another has a 0 there, else 1.
+// One bit of the walk, the highest of the front that it has not settled: 0 if the word in hand or another has a 0 there, else 1.
 fn descend(
-    low: &[u64],
+    within: &[u64],
     whole: &[u64],
-    states: &[u64],
     levels: &[u32],
     i: u32,
     front: u64,
     d: Descent,
     trail: &mut [u64; TRAIL],
 ) -> Descent
-    requires { ⌜ GoesOn (fulfils (lent low whole states levels i)) front d ⌝ }
-    ensures { λ r. ⌜ Walks (fulfils (lent (low .entry) (whole .entry) (states .entry) (levels .entry) i)) front d r ⌝ }
+    requires { ⌜ GoesOn (fulfils (lent within whole levels i)) front d × Few (d .settled) ⌝ }
+    ensures { λ r. ⌜ Walks (fulfils (lent (within .entry) (whole .entry) (levels .entry) i)) front d r ⌝ }
 {
-    let Descent { settled: s, pair } = d;
+    let Descent { settled: s, word } = d;
     let bit = top_open(front, s);
-    let zero = settle_at(s, bit, 0);
-    if pair & bit == 0 {
+    let zero = settle_at(s, bit, NONE);
+    if masks::is_empty(masks::and(word, bit)) {
         return Descent {
             settled: zero,
-            pair,
+            word,
         };
     }
-    let f = settle(low, whole, states, levels, i, zero, 0, trail);
+    let f = settle(within, whole, levels, i, zero, trail);
     match f {
-        Found::Pair(lower) => Descent {
+        Found::Word(lower) => Descent {
             settled: zero,
-            pair: lower,
+            word: lower,
         },
         Found::Nothing(_) => {
             let one = settle_at(s, bit, bit);
-            Descent { settled: one, pair }
+            Descent { settled: one, word }
         }
     }
 }
 
-// A pair whose front is least: with a pair in hand, a walk over the open bits of the front from the highest down.
+// Whether the walk has not settled all of the front.
+fn is_open(front: u64, d: Descent) -> bool
+    ensures { λ r. ⌜ r ≡ ltb 0 (openOf width front (setting (d .settled))) ⌝ }
+{
+    let Descent { settled, word: _ } = d;
+    let Settled { bits, values: _ } = settled;
+    0 < front & !bits.pair
+}
+
+// A word whose front is least: with a word in hand, a walk over the open bits of the front from the highest down.
 fn least(
-    low: &[u64],
+    within: &[u64],
     whole: &[u64],
-    states: &[u64],
     levels: &[u32],
     i: u32,
     front: u64,
     s: Settled,
     trail: &mut [u64; TRAIL],
 ) -> Found
-    requires { ⌜ Valid s ⌝ }
-    ensures { λ r. ⌜ LeastFront (fulfils (lent (low .entry) (whole .entry) (states .entry) (levels .entry) i)) front s r ⌝ }
+    requires { ⌜ Starts s ⌝ }
+    ensures { λ r. ⌜ LeastFront (fulfils (lent (within .entry) (whole .entry) (levels .entry) i)) front s r ⌝ }
 {
-    let f = settle(low, whole, states, levels, i, s, 0, trail);
-    let Found::Pair(pair) = f else {
+    let f = settle(within, whole, levels, i, s, trail);
+    let Found::Word(word) = f else {
         return f;
     };
-    let mut d = Descent { settled: s, pair };
-    while front & !d.settled.bits != 0 {
-        d = descend(low, whole, states, levels, i, front, d, trail);
+    let mut d = Descent { settled: s, word };
+    while is_open(front, d) {
+        d = descend(within, whole, levels, i, front, d, trail);
     }
-    Found::Pair(d.pair)
+    let least = d.word;
+    Found::Word(least)
 }
 
 // The number of states of n bits; more than 32 count as 32.
@@ -106,9 +132,16 @@ fn size(n: u32) -> u64
 
 // All positions but the n lowest, of which a state has 32 at most: what is settled while these are open.
 fn beyond(n: u32) -> u64
-    ensures { λ r. ⌜ r ≡ 2 ^ width - 2 ^ min n 32 ⌝ }
+    ensures { λ r. ⌜ r ≡ 2 ^ 64 - 2 ^ min n 32 ⌝ }
 {
     !(size(n) - 1)
+}
+
+// The same of wires, of which there are 64 at most.
+fn beyond_wires(w: u32) -> u64
+    ensures { λ r. ⌜ r ≡ 2 ^ 64 - 2 ^ min w 64 ⌝ }
+{
+    if w < 64 { !((1u64 << w) - 1) } else { 0 }
 }
 
 // The lower of two numbers.
@@ -126,52 +159,59 @@ fn open_bits(n: u32, at: u64) -> u32
     lower(u64::trailing_zeros(at), lower(n, 32))
 }
 
-// The least state of a block whose pair, with `later` one step later, fulfils the condition.
+// The least state of a block whose pair, with `later` one step later, fulfils the condition by some setting of the wires.
 fn ask_block(
-    low: &[u64],
+    within: &[u64],
     whole: &[u64],
-    states: &[u64],
     levels: &[u32],
     i: u32,
+    free: Free,
     later: u64,
     at: u64,
     k: u32,
     trail: &mut [u64; TRAIL],
 ) -> Answer
     requires { ⌜ Block 32 at k ⌝ }
-    ensures { λ r. ⌜ answered r ≡ askedIn at (at + 2 ^ k) (lent (low .entry) (whole .entry) (states .entry) (levels .entry) i) later ⌝ }
+    ensures { λ r. ⌜ answered r ≡ askedIn at (at + 2 ^ k) (free .w) (lent (within .entry) (whole .entry) (levels .entry) i) later ⌝ }
 {
     let s = Settled {
-        bits: beyond(k),
-        values: at + HALF * (later % HALF),
+        bits: Mask {
+            pair: beyond(k),
+            wires: beyond_wires(free.w),
+        },
+        values: Mask {
+            pair: at + HALF * (later % HALF),
+            wires: 0,
+        },
     };
-    let f = least(low, whole, states, levels, i, STATE, s, trail);
+    let f = least(within, whole, levels, i, STATE, s, trail);
     match f {
-        Found::Pair(pair) => Answer::State(pair % HALF),
+        Found::Word(word) => Answer::State(word.pair % HALF),
         Found::Nothing(_) => Answer::Nothing,
     }
 }
 
-// The least state not below `from` whose pair, with `later` one step later, fulfils the condition. From 0 on all states are one block; from another
-// number on each block is larger than the one before it, so there are at most n.
+// The least state not below `from` whose pair, with `later` one step later, fulfils the condition by some setting of the wires. From 0 on all states are
+// one block; from another number on each block is larger than the one before it, so there are at most n.
 fn ask(
-    n: u32,
-    low: &[u64],
+    free: Free,
+    within: &[u64],
     whole: &[u64],
-    states: &[u64],
     levels: &[u32],
     i: u32,
     later: u64,
     from: u64,
 ) -> Answer
-    ensures { λ r. ⌜ answered r ≡ asked n (lent (low .entry) (whole .entry) (states .entry) (levels .entry) i) later from ⌝ }
+    ensures { λ r. ⌜ answered r ≡ asked (free .n) (free .w) (lent (within .entry) (whole .entry) (levels .entry) i) later from ⌝ }
 {
     let mut trail = [0; TRAIL];
+    trail[4 * MOST_OPEN] = free.first;
+    let n = free.n;
     let end = size(n);
     let mut at = from;
     while at < end {
         let k = open_bits(n, at);
-        let answer = ask_block(low, whole, states, levels, i, later, at, k, &mut trail);
+        let answer = ask_block(within, whole, levels, i, free, later, at, k, &mut trail);
         let Answer::Nothing = answer else {
             return answer;
         };
@@ -183,7 +223,7 @@ fn ask(
 // The least state of R(i) that steps to the target and is not below `from`. R(0) is what `start` is true of; above, it is all but the states that are
 // stored with a level of i or more. A state with no level beside it counts as stored with every level.
 pub fn step_in(
-    n: u32,
+    free: Free,
     start: &[u64],
     step: &[u64],
     states: &[u64],
@@ -192,17 +232,17 @@ pub fn step_in(
     target: u64,
     from: u64,
 ) -> Answer
-    ensures { λ r. ⌜ answered r ≡ stepIn n (now (start .entry)) (now (step .entry)) (now (states .entry)) (now (levels .entry)) i target from ⌝ }
+    ensures { λ r. ⌜ answered r ≡ stepIn (free .n) (free .w) (now (start .entry)) (now (step .entry)) (now (states .entry)) (now (levels .entry)) i target from ⌝ }
 {
     if i == 0 {
-        return ask(n, start, step, &states[..0], levels, i, target, from);
+        return ask(free, start, step, levels, i, target, from);
     }
-    ask(n, &start[..0], step, states, levels, i, target, from)
+    ask(free, states, step, levels, i, target, from)
 }
 
 // The least state of R(i) that is bad and not below `from`: the list is asked of the state's pair, with a later half of 0.
 pub fn bad_in(
-    n: u32,
+    free: Free,
     start: &[u64],
     bad: &[u64],
     states: &[u64],
@@ -210,7 +250,32 @@ pub fn bad_in(
     i: u32,
     from: u64,
 ) -> Answer
-    ensures { λ r. ⌜ answered r ≡ badIn n (now (start .entry)) (now (bad .entry)) (now (states .entry)) (now (levels .entry)) i from ⌝ }
+    ensures { λ r. ⌜ answered r ≡ badIn (free .n) (free .w) (now (start .entry)) (now (bad .entry)) (now (states .entry)) (now (levels .entry)) i from ⌝ }
 {
-    step_in(n, start, bad, states, levels, i, 0, from)
+    step_in(free, start, bad, states, levels, i, 0, from)
+}
+
+// Whether some setting of the wires makes the list true of s, with t one step later. Of both the low 32 bits count. No state is asked for: s is a block of
+// its own.
+pub fn some_true(free: Free, list: &[u64], s: u64, t: u64) -> bool
+    ensures { λ r. ⌜ r ≡ someTrue (free .w) (now (list .entry)) (pair (s % 2 ^ 32) (t % 2 ^ 32)) ⌝ }
+{
+    let levels = [0u32; 1];
+    let mut trail = [0; TRAIL];
+    trail[4 * MOST_OPEN] = free.first;
+    let answer = ask_block(
+        &list[..0],
+        list,
+        &levels[..0],
+        1,
+        free,
+        t,
+        s % HALF,
+        0,
+        &mut trail,
+    );
+    match answer {
+        Answer::State(_) => true,
+        Answer::Nothing => false,
+    }
 }

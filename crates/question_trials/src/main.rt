@@ -91,18 +91,22 @@ fn mask(random: u64, wanted: u64, n: u64, kind: u64, width: u64) -> u64 {
         )
 }
 
-// Random clauses. Both masks of a clause come from one random number.
-fn fill_clauses(list: &mut [u64; 121], n: u64, kind: u64, width: u64, seed: u64) -> u64 {
+// Random clauses. Both masks over the pair come from one random number, those over wires are zero.
+fn fill_clauses(list: &mut [u64; 243], n: u64, kind: u64, width: u64, seed: u64) -> u64 {
     let mut random = seed;
     let mut j = 0;
-    while j < 121 {
-        let odd = j % 2;
-        random = if odd == 0 {
+    while j < 243 {
+        let part = (j % 4) as u64;
+        random = if part == 0 {
             small_systems::next(random)
         } else {
             random
         };
-        list[j] = mask(random, odd as u64, n, kind, width);
+        list[j] = if part < 2 {
+            mask(random, part, n, kind, width)
+        } else {
+            0
+        };
         j += 1;
     }
     random
@@ -152,33 +156,12 @@ fn fill_stores(states: &mut [u64; 40], levels: &mut [u32; 40], n: u64, seed: u64
     random
 }
 
-// Whether entry j counts at level i.
-fn counts(levels: &[u32], j: usize, i: u32) -> bool {
-    if j < levels.len() {
-        i <= levels[j]
-    } else {
-        true
-    }
-}
-
-// Whether the state is stored with a level of i or more.
-fn is_stored(states: &[u64], levels: &[u32], i: u32, state: u64) -> bool {
-    let mut j = states.len();
-    while 0 < j {
-        j -= 1;
-        if state == states[j] && counts(levels, j, i) {
-            return true;
-        }
-    }
-    false
-}
-
 // Whether the state is in R(i).
 fn inside(start: &[u64], states: &[u64], levels: &[u32], i: u32, state: u64) -> bool {
     if i == 0 {
-        tables::list_holds(start, state)
+        tables::list_holds(start, state, 0)
     } else {
-        !is_stored(states, levels, i, state)
+        !small_systems::is_stored(states, levels, i, state)
     }
 }
 
@@ -195,7 +178,7 @@ fn walk(
 ) -> u64 {
     let mut state = from;
     while state < end {
-        if tables::list_holds(list, state | later) && inside(start, states, levels, i, state) {
+        if tables::list_holds(list, state | later, 0) && inside(start, states, levels, i, state) {
             return state;
         }
         state += 1;
@@ -203,7 +186,7 @@ fn walk(
     NONE
 }
 
-// What the engine says.
+// What the engine says. There are no wires, so it may be told to try any first.
 fn ask(
     steps: bool,
     n: u32,
@@ -215,10 +198,15 @@ fn ask(
     target: u64,
     from: u64,
 ) -> u64 {
+    let free = question::Free {
+        n,
+        w: 0,
+        first: target,
+    };
     let r = if steps {
-        question::step_in(n, start, list, states, levels, i, target, from)
+        question::step_in(free, start, list, states, levels, i, target, from)
     } else {
-        question::bad_in(n, start, list, states, levels, i, from)
+        question::bad_in(free, start, list, states, levels, i, from)
     };
     match r {
         question::Answer::State(state) => state,
@@ -316,20 +304,25 @@ fn compare(
     count(t, walked, asked, random)
 }
 
-// A question from the front parts of what was filled: at times with a mask too many, and with more or fewer levels than states.
+// How many masks stand behind the last clause: none for the most part.
+fn too_many(bits: u64) -> u64 {
+    if bits % 8 == 7 { bits / 16 % 3 + 1 } else { 0 }
+}
+
+// A question from the front parts of what was filled: at times with one to three masks too many, and with more or fewer levels than states.
 fn cut(
     t: Tally,
     shape: u64,
     sizes: u64,
-    start: &[u64; 121],
-    list: &[u64; 121],
+    start: &[u64; 243],
+    list: &[u64; 243],
     states: &[u64; 40],
     levels: [u32; 40],
     random: u64,
 ) -> Tally {
-    let odd = (sizes >> 8) % 8 / 7;
-    let starts = ((sizes >> 16) % 5 * 2 + odd) as usize;
-    let clauses = ((sizes >> 24) % 61 * 2 + odd) as usize;
+    let over = too_many(sizes >> 8) % 4;
+    let starts = ((sizes >> 16) % 5 * 4 + over) as usize;
+    let clauses = ((sizes >> 24) % 61 * 4 + over) as usize;
     let stores = ((sizes >> 32) % 41) as usize;
     let others = if (shape >> 16) % 4 == 0 {
         sizes >> 40
@@ -351,8 +344,8 @@ fn cut(
 
 // One random question, counted.
 fn question(t: Tally) -> Tally {
-    let mut start = [0u64; 121];
-    let mut list = [0u64; 121];
+    let mut start = [0u64; 243];
+    let mut list = [0u64; 243];
     let mut states = [0u64; 40];
     let mut levels = [0u32; 40];
     let shape = small_systems::next(t.seed);

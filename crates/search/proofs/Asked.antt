@@ -46,7 +46,7 @@ module _ (y : System) (count : ℕ) (ss ls : List ℕ) (a : Asks (y .n) count ss
   fronts-tidy = rw fronts (a .tidy)
 
   -- an answer of steps 1 and 2, taken in
-  pub look-next : (room N : ℕ) (o : Option ℕ) → o ≡ badIn (y .n) (y .start) (y .bad) (take count ss) (take count ls) N 0
+  pub look-next : (room N : ℕ) (o : Option ℕ) → o ≡ badIn (y .n) (y .w) (y .start) (y .bad) (take count ss) (take count ls) N 0
       → next rounds (model y) room (at N (storeOf count ss ls) look) ≡ react rounds room N (storeOf count ss ls) look o
   unfolding next
   look-next room N o e =
@@ -56,7 +56,7 @@ module _ (y : System) (count : ℕ) (ss ls : List ℕ) (a : Asks (y .n) count ss
   -- an answer of steps 3 and 4, in each phase that asks for a state of R(i) which steps to s
   pub step-next : (room N i s : ℕ) (p : Phase) (o : Option ℕ)
       → wanted (model y) N (storeOf count ss ls) p ≡ (λ t. R (model y) (levelOf (storeOf count ss ls)) i t && model y .step t s)
-      → o ≡ stepIn (y .n) (y .start) (y .step) (take count ss) (take count ls) i s 0
+      → o ≡ stepIn (y .n) (y .w) (y .start) (y .step) (take count ss) (take count ls) i s 0
       → next rounds (model y) room (at N (storeOf count ss ls) p) ≡ react rounds room N (storeOf count ss ls) p o
   unfolding next
   step-next room N i s p o h e =

@@ -76,7 +76,7 @@ lends y lent h =
     let e = refused-none y lent h in
     let f = stores-fitting lent (e .1) in
     record {
-      small = size-right (y .n) (refusal-none y (e .0) .0) .1;
+      small = size-right (y .n) (y .w) (refusal-none y (e .0) .0) .1;
       most = f .most;
       states = refl;
       levels = sym (f .same);

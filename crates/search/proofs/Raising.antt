@@ -58,7 +58,7 @@ module _ {n N count i j : ℕ} {ss ls : List ℕ} (w : Raises n N count i j ss l
 
 module _ (y : System) (N count i j : ℕ) (ss ls : List ℕ) (w : Raises (y .n) N count i j ss ls) where
   -- a state was found: on behind the entry
-  pub raise-not : (room t : ℕ) → some t ≡ stepIn (y .n) (y .start) (y .step) (take count ss) (take count ls) i (getD ss j 0) 0
+  pub raise-not : (room t : ℕ) → some t ≡ stepIn (y .n) (y .w) (y .start) (y .step) (take count ss) (take count ls) i (getD ss j 0) 0
       → testedFrom N count i (j + 1) ss ls
       ≡ next rounds (model y) room (at N (storeOf count ss ls) (raise i (getD ss j 0) (states (eqb i) (window (count - suc j) (suc j) ss ls))))
   unfolding react wanted testedFrom
@@ -67,7 +67,7 @@ module _ (y : System) (N count i j : ℕ) (ss ls : List ℕ) (w : Raises (y .n) 
       (sym (step-next y count ss ls (w .asks) room N i (getD ss j 0) (raise i (getD ss j 0) _) (some t) refl q))
 
   -- none was found: on behind the entry, with the entry's level raised
-  pub raise-up : (room : ℕ) → none ≡ stepIn (y .n) (y .start) (y .step) (take count ss) (take count ls) i (getD ss j 0) 0
+  pub raise-up : (room : ℕ) → none ≡ stepIn (y .n) (y .w) (y .start) (y .step) (take count ss) (take count ls) i (getD ss j 0) 0
       → testedFrom N count i (j + 1) ss (set ls j (i + 1))
       ≡ next rounds (model y) room (at N (storeOf count ss ls) (raise i (getD ss j 0) (states (eqb i) (window (count - suc j) (suc j) ss ls))))
   unfolding react wanted testedFrom

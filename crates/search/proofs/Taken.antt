@@ -22,13 +22,13 @@ moves-to e w = record { onward = w .onward ∙ e; bounded = w .bounded }
 
 module _ (y : System) (count : ℕ) (ss ls : List ℕ) (a : Asks (y .n) count ss ls) (room N : ℕ) where
   -- a bad state is found
-  pub look-some : (s : ℕ) → some s ≡ badIn (y .n) (y .start) (y .bad) (take count ss) (take count ls) N 0
+  pub look-some : (s : ℕ) → some s ≡ badIn (y .n) (y .w) (y .start) (y .bad) (take count ss) (take count ls) N 0
       → found N (storeOf count ss ls) s ≡ next rounds (model y) room (at N (storeOf count ss ls) look)
   unfolding react
   look-some s e = sym (look-next y count ss ls a room N (some s) e)
 
   -- with no bad state step 4 begins, and N is one more
-  pub look-none : none ≡ badIn (y .n) (y .start) (y .bad) (take count ss) (take count ls) N 0
+  pub look-none : none ≡ badIn (y .n) (y .w) (y .start) (y .bad) (take count ss) (take count ls) N 0
       → round rounds (N + 1) (N + 1 - 1) 1 (storeOf count ss ls) ≡ next rounds (model y) room (at N (storeOf count ss ls) look)
   unfolding react
   look-none e =
@@ -37,13 +37,13 @@ module _ (y : System) (count : ℕ) (ss ls : List ℕ) (a : Asks (y .n) count ss
 
   module _ (k s : ℕ) (ds : List ℕ) where
     -- a state steps to that of the duty
-    pub settle-some : (t : ℕ) → some t ≡ stepIn (y .n) (y .start) (y .step) (take count ss) (take count ls) k s 0
+    pub settle-some : (t : ℕ) → some t ≡ stepIn (y .n) (y .w) (y .start) (y .step) (take count ss) (take count ls) k s 0
         → deeper N (storeOf count ss ls) k s ds t ≡ next rounds (model y) room (at N (storeOf count ss ls) (settle k s ds))
     unfolding react wanted
     settle-some t e = sym (step-next y count ss ls a room N k s (settle k s ds) (some t) refl e)
 
     -- none does: the state of the duty gets its level
-    pub settle-none : none ≡ stepIn (y .n) (y .start) (y .step) (take count ss) (take count ls) k s 0
+    pub settle-none : none ≡ stepIn (y .n) (y .w) (y .start) (y .step) (take count ss) (take count ls) k s 0
         → kept room N (put (storeOf count ss ls) s (suc k)) k ds ≡ next rounds (model y) room (at N (storeOf count ss ls) (settle k s ds))
     unfolding react wanted
     settle-none e = sym (step-next y count ss ls a room N k s (settle k s ds) none refl e)

@@ -17,6 +17,7 @@ use react::Verdict;
 use react::Why;
 use store::keep;
 use turn::Ending;
+use turn::Frees;
 use turn::searched;
 
 // The stores as they are left: the states start with `front` of their numbers and the path with `len` of its own, and everything else is zero.
@@ -77,6 +78,7 @@ fn close(states: &mut [u64], levels: &mut [u32], path: &mut [u64], ending: Endin
 // The call of the scope.
 pub fn search(
     n: u32,
+    w: u32,
     start: &[u64],
     step: &[u64],
     bad: &[u64],
@@ -86,18 +88,24 @@ pub fn search(
     allowance: u32,
 ) -> call::Outcome
     ensures { λ r. ⌜
-        Promised (systemOf n (now (start .entry)) (now (step .entry)) (now (bad .entry)))
+        Promised (systemOf n w (now (start .entry)) (now (step .entry)) (now (bad .entry)))
         (stores (now (states .entry)) (now (levels .entry)) (now (path .entry))) allowance
         r (stores (now (states .exit)) (now (levels .exit)) (now (path .exit)))
         ⌝ }
 {
-    let refusal = system::refusal(n, start, step, bad);
+    let refusal = system::refusal(n, w, start, step, bad);
     if refusal != 0 {
         return call::Outcome::Refused(refusal);
     }
     if call::wrong_stores(states, levels, path) {
         return call::Outcome::Refused(4);
     }
-    let ending = searched(n, start, step, bad, states, levels, path, allowance);
+    let f = Frees {
+        n,
+        w,
+        step_first: order::first(step, w),
+        bad_first: order::first(bad, w),
+    };
+    let ending = searched(f, start, step, bad, states, levels, path, allowance);
     close(states, levels, path, ending)
 }

@@ -25,6 +25,16 @@ use super::react::found;
 use super::react::round;
 use super::react::tested;
 use super::react::wide;
+use question::Free;
+
+// What the questions of a search leave free: n bits of the state and w wires; and the wires that are tried first where a step is asked for, and where a
+// bad state is.
+pub(super) struct Frees {
+    pub(super) n: u32,
+    pub(super) w: u32,
+    pub(super) step_first: u64,
+    pub(super) bad_first: u64,
+}
 
 // How a search ended, and the questions asked.
 pub(super) struct Ending {
@@ -34,7 +44,7 @@ pub(super) struct Ending {
 
 // The question for a bad state of R(i), over the stored states.
 fn bad_state(
-    n: u32,
+    f: Frees,
     start: &[u64],
     bad: &[u64],
     states: &[u64],
@@ -45,15 +55,20 @@ fn bad_state(
     requires { ⌜ Holds count (now states) (now levels) ⌝ }
     ensures { λ r. ⌜
         answered r
-        ≡ badIn n (now (start .entry)) (now (bad .entry)) (take count (now (states .entry))) (take count (now (levels .entry))) i 0
+        ≡ badIn (f .n) (f .w) (now (start .entry)) (now (bad .entry)) (take count (now (states .entry))) (take count (now (levels .entry))) i 0
         ⌝ }
 {
-    question::bad_in(n, start, bad, &states[..count], &levels[..count], i, 0)
+    let free = Free {
+        n: f.n,
+        w: f.w,
+        first: f.bad_first,
+    };
+    question::bad_in(free, start, bad, &states[..count], &levels[..count], i, 0)
 }
 
 // The question for a state of R(i) that steps to s, over the stored states.
 fn step_state(
-    n: u32,
+    f: Frees,
     start: &[u64],
     step: &[u64],
     states: &[u64],
@@ -65,15 +80,29 @@ fn step_state(
     requires { ⌜ Holds count (now states) (now levels) ⌝ }
     ensures { λ r. ⌜
         answered r
-        ≡ stepIn n (now (start .entry)) (now (step .entry)) (take count (now (states .entry))) (take count (now (levels .entry))) i s 0
+        ≡ stepIn (f .n) (f .w) (now (start .entry)) (now (step .entry)) (take count (now (states .entry))) (take count (now (levels .entry))) i s 0
         ⌝ }
 {
-    question::step_in(n, start, step, &states[..count], &levels[..count], i, s, 0)
+    let free = Free {
+        n: f.n,
+        w: f.w,
+        first: f.step_first,
+    };
+    question::step_in(
+        free,
+        start,
+        step,
+        &states[..count],
+        &levels[..count],
+        i,
+        s,
+        0,
+    )
 }
 
 // Step 2 (or 1).
 fn look(
-    n: u32,
+    f: Frees,
     start: &[u64],
     bad: &[u64],
     states: &[u64],
@@ -82,14 +111,14 @@ fn look(
     N: u32,
     count: usize,
 ) -> Move
-    requires { ⌜ Ready n (length (now states)) (config N count Look) (stores (now states) (now levels) (now path)) ⌝ }
+    requires { ⌜ Ready (f .n) (length (now states)) (config N count Look) (stores (now states) (now levels) (now path)) ⌝ }
     ensures { λ r. ⌜
         ((step : List ℕ) → Moves r (stores (now (states .entry)) (now (levels .entry)) (now (path .exit)))
-        (ic3.next rounds (model (systemOf n (now (start .entry)) step (now (bad .entry)))) (length (now (states .entry)))
+        (ic3.next rounds (model (systemOf (f .n) (f .w) (now (start .entry)) step (now (bad .entry)))) (length (now (states .entry)))
         (configOf (config N count Look) (stores (now (states .entry)) (now (levels .entry)) (now (path .entry))))))
         ⌝ }
 {
-    let answer = bad_state(n, start, bad, states, levels, count, N);
+    let answer = bad_state(f, start, bad, states, levels, count, N);
     match answer {
         question::Answer::State(s) => found(path, N, count, s),
         question::Answer::Nothing => round(levels, N + 1, count, 1),
@@ -98,7 +127,7 @@ fn look(
 
 // Step 3 for the duty of level k + 1, whose state stands at index k + 1 of the path store.
 fn settle(
-    n: u32,
+    f: Frees,
     start: &[u64],
     step: &[u64],
     states: &mut [u64],
@@ -108,15 +137,15 @@ fn settle(
     count: usize,
     k: u32,
 ) -> Move
-    requires { ⌜ Ready n (length (now states)) (config N count (Settle k)) (stores (now states) (now levels) (now path)) ⌝ }
+    requires { ⌜ Ready (f .n) (length (now states)) (config N count (Settle k)) (stores (now states) (now levels) (now path)) ⌝ }
     ensures { λ r. ⌜
         ((bad : List ℕ) → Moves r (stores (now (states .exit)) (now (levels .exit)) (now (path .exit)))
-        (ic3.next rounds (model (systemOf n (now (start .entry)) (now (step .entry)) bad)) (length (now (states .entry)))
+        (ic3.next rounds (model (systemOf (f .n) (f .w) (now (start .entry)) (now (step .entry)) bad)) (length (now (states .entry)))
         (configOf (config N count (Settle k)) (stores (now (states .entry)) (now (levels .entry)) (now (path .entry))))))
         ⌝ }
 {
     let s = path[wide(k) + 1];
-    let answer = step_state(n, start, step, states, levels, count, k, s);
+    let answer = step_state(f, start, step, states, levels, count, k, s);
     match answer {
         question::Answer::State(t) => deeper(path, N, count, k, t),
         question::Answer::Nothing => blocked(states, levels, N, count, k, s),
@@ -125,7 +154,7 @@ fn settle(
 
 // Step 4 at level i for entry j: its level is raised in place.
 fn raise(
-    n: u32,
+    f: Frees,
     start: &[u64],
     step: &[u64],
     states: &[u64],
@@ -135,15 +164,15 @@ fn raise(
     i: u32,
     j: usize,
 ) -> Move
-    requires { ⌜ Raises n N count i j (now states) (now levels) ⌝ }
+    requires { ⌜ Raises (f .n) N count i j (now states) (now levels) ⌝ }
     ensures { λ r. ⌜
         ((bad path : List ℕ) → Moves r (stores (now (states .entry)) (now (levels .exit)) path)
-        (ic3.next rounds (model (systemOf n (now (start .entry)) (now (step .entry)) bad)) (length (now (states .entry)))
+        (ic3.next rounds (model (systemOf (f .n) (f .w) (now (start .entry)) (now (step .entry)) bad)) (length (now (states .entry)))
         (configOf (config N count (Raise i j)) (stores (now (states .entry)) (now (levels .entry)) path))))
         ⌝ }
 {
     let s = states[j];
-    let answer = step_state(n, start, step, states, levels, count, i, s);
+    let answer = step_state(f, start, step, states, levels, count, i, s);
     match answer {
         question::Answer::State(_) => {}
         question::Answer::Nothing => {
@@ -155,7 +184,7 @@ fn raise(
 
 // One question, asked and taken in.
 fn one_turn(
-    n: u32,
+    f: Frees,
     start: &[u64],
     step: &[u64],
     bad: &[u64],
@@ -164,10 +193,10 @@ fn one_turn(
     path: &mut [u64],
     c: Config,
 ) -> Move
-    requires { ⌜ Ready n (length (now states)) c (stores (now states) (now levels) (now path)) ⌝ }
+    requires { ⌜ Ready (f .n) (length (now states)) c (stores (now states) (now levels) (now path)) ⌝ }
     ensures { λ r. ⌜
         Moves r (stores (now (states .exit)) (now (levels .exit)) (now (path .exit)))
-        (ic3.next rounds (model (systemOf n (now (start .entry)) (now (step .entry)) (now (bad .entry)))) (length (now (states .entry)))
+        (ic3.next rounds (model (systemOf (f .n) (f .w) (now (start .entry)) (now (step .entry)) (now (bad .entry)))) (length (now (states .entry)))
         (configOf c (stores (now (states .entry)) (now (levels .entry)) (now (path .entry)))))
         ⌝ }
 {
@@ -175,15 +204,15 @@ fn one_turn(
     let count = c.count;
     let phase = c.phase;
     match phase {
-        Phase::Look => look(n, start, bad, states, levels, path, N, count),
-        Phase::Settle(k) => settle(n, start, step, states, levels, path, N, count, k),
-        Phase::Raise(i, j) => raise(n, start, step, states, levels, N, count, i, j),
+        Phase::Look => look(f, start, bad, states, levels, path, N, count),
+        Phase::Settle(k) => settle(f, start, step, states, levels, path, N, count, k),
+        Phase::Raise(i, j) => raise(f, start, step, states, levels, N, count, i, j),
     }
 }
 
 // Turn after turn from c, which `asked` questions led to, until one is the last or the allowance is used up.
 fn all_turns(
-    n: u32,
+    f: Frees,
     start: &[u64],
     step: &[u64],
     bad: &[u64],
@@ -194,16 +223,16 @@ fn all_turns(
     mut asked: u32,
     allowance: u32,
 ) -> Ending
-    requires { ⌜ Begins n (length (now states)) c asked allowance (stores (now states) (now levels) (now path)) ⌝ }
+    requires { ⌜ Begins (f .n) (length (now states)) c asked allowance (stores (now states) (now levels) (now path)) ⌝ }
     ensures { λ r. ⌜
-        Ends n (length (now (states .entry)))
-        (ic3.searchFrom rounds (allowance - asked) (model (systemOf n (now (start .entry)) (now (step .entry)) (now (bad .entry))))
+        Ends (f .n) (length (now (states .entry)))
+        (ic3.searchFrom rounds (allowance - asked) (model (systemOf (f .n) (f .w) (now (start .entry)) (now (step .entry)) (now (bad .entry))))
         (length (now (states .entry))) (configOf c (stores (now (states .entry)) (now (levels .entry)) (now (path .entry)))) asked)
         (r .verdict) (r .questions) (stores (now (states .exit)) (now (levels .exit)) (now (path .exit)))
         ⌝ }
 {
     while asked < allowance {
-        let t = one_turn(n, start, step, bad, states, levels, path, c);
+        let t = one_turn(f, start, step, bad, states, levels, path, c);
         asked += 1;
         match t {
             Move::Go(d) => {
@@ -224,15 +253,20 @@ fn all_turns(
 }
 
 // The question for a start state: a state of R(0) of which an empty list is true.
-fn start_state(n: u32, start: &[u64], levels: &[u32]) -> question::Answer
-    ensures { λ r. ⌜ answered r ≡ least (2 ^ min n 32) (listTrue (now (start .entry))) ⌝ }
+fn start_state(f: Frees, start: &[u64], levels: &[u32]) -> question::Answer
+    ensures { λ r. ⌜ answered r ≡ least (2 ^ min (f .n) 32) (λ s. listTrue (now (start .entry)) s 0) ⌝ }
 {
-    question::bad_in(n, start, &start[..0], &start[..0], levels, 0, 0)
+    let free = Free {
+        n: f.n,
+        w: 0,
+        first: 0,
+    };
+    question::bad_in(free, start, &start[..0], &start[..0], levels, 0, 0)
 }
 
 // The whole search: the question for a start state, then turn after turn from step 1 on.
 pub(super) fn searched(
-    n: u32,
+    f: Frees,
     start: &[u64],
     step: &[u64],
     bad: &[u64],
@@ -241,10 +275,10 @@ pub(super) fn searched(
     path: &mut [u64],
     allowance: u32,
 ) -> Ending
-    requires { ⌜ Lends n (length (now states)) (stores (now states) (now levels) (now path)) ⌝ }
+    requires { ⌜ Lends (f .n) (length (now states)) (stores (now states) (now levels) (now path)) ⌝ }
     ensures { λ r. ⌜
-        Ends n (length (now (states .entry)))
-        (ic3.searched rounds (model (systemOf n (now (start .entry)) (now (step .entry)) (now (bad .entry)))) (length (now (states .entry))) allowance)
+        Ends (f .n) (length (now (states .entry)))
+        (ic3.searched rounds (model (systemOf (f .n) (f .w) (now (start .entry)) (now (step .entry)) (now (bad .entry)))) (length (now (states .entry))) allowance)
         (r .verdict) (r .questions) (stores (now (states .exit)) (now (levels .exit)) (now (path .exit)))
         ⌝ }
 {
@@ -254,7 +288,7 @@ pub(super) fn searched(
             questions: 0,
         };
     }
-    let answer = start_state(n, start, levels);
+    let answer = start_state(f, start, levels);
     let question::Answer::State(_) = answer else {
         return Ending {
             verdict: Verdict::GaveUp(Why::NoStart),
@@ -267,7 +301,7 @@ pub(super) fn searched(
         phase: Phase::Look,
     };
     all_turns(
-        n,
+        f,
         start,
         step,
         bad,

@@ -27,17 +27,6 @@ pub struct Plan {
     pub high: usize,
 }
 
-// A digest of a list that begins with another.
-fn digest(seed: u64, list: &[u64]) -> u64 {
-    let mut d = seed;
-    let mut j = 0;
-    while j < list.len() {
-        d = small_systems::next(d ^ list[j]);
-        j += 1;
-    }
-    d
-}
-
 fn said(outcome: call::Outcome) -> u64 {
     match outcome {
         call::Outcome::Safe(_, _) => counts::SAFE,
@@ -58,8 +47,8 @@ fn is_yes(checked: evidence::Checked) -> bool {
 // Whether the evidence check accepts the evidence. Where nothing was said there is none, and nothing to accept.
 fn check(said: u64, n: u32, start: &[u64], step: &[u64], bad: &[u64], list: &[u64]) -> bool {
     match said {
-        counts::SAFE => is_yes(evidence::check_excluded(n, start, step, bad, list)),
-        counts::UNSAFE => is_yes(evidence::check_path(n, start, step, bad, list)),
+        counts::SAFE => is_yes(evidence::check_excluded(n, 0, start, step, bad, list)),
+        counts::UNSAFE => is_yes(evidence::check_path(n, 0, start, step, bad, list)),
         _ => true,
     }
 }
@@ -118,7 +107,7 @@ fn run(
     path: &mut [u64],
     allowance: u32,
 ) -> counts::Seen {
-    let outcome = search::search(n, start, step, bad, states, levels, path, allowance);
+    let outcome = search::search(n, 0, start, step, bad, states, levels, path, allowance);
     let list = call::evidence(states, path, outcome);
     let said = said(outcome);
     counts::Seen {
@@ -126,7 +115,7 @@ fn run(
         said,
         length: list.len(),
         questions: call::questions(outcome),
-        digest: digest(head(outcome), list),
+        digest: small_systems::digest(head(outcome), list),
         check: check(said, n, start, step, bad, list),
         walk: walk(said, n, table, list),
         zero: cleared(states, levels, path, said, list.len()),
@@ -302,7 +291,7 @@ fn trial(
     step: &[u64],
     bad: &[u64],
 ) -> [u64; counts::PLACES] {
-    tables::table(n, start, step, bad, table);
+    tables::table(n, 0, start, step, bad, table);
     let k = survey(n, table, next_full());
     let c = counts::enter_system(counts, n, kind, k);
     calls(c, n, start, step, bad, table, k)
@@ -315,14 +304,14 @@ fn system(
     i: u64,
     shape: u64,
 ) -> [u64; counts::PLACES] {
-    let mut start = [0u64; 2048];
-    let mut step = [0u64; 8192];
-    let mut bad = [0u64; 2048];
+    let mut start = [0u64; 4096];
+    let mut step = [0u64; 16384];
+    let mut bad = [0u64; 4096];
     let n = systems::bits_of(i);
     let kind = systems::step_kind(n, i);
     let many = systems::density(kind, n, kind, shape >> 24);
     let a = systems::states_in(n, kind, shape >> 32, shape ^ START_SEED, &mut start);
-    let b = small_systems::fill(kind, many, n, true, shape ^ STEP_SEED, &mut step);
+    let b = small_systems::fill(kind, many, n, 0, true, shape ^ STEP_SEED, &mut step);
     let c = systems::states_in(n, kind, shape >> 40, shape ^ BAD_SEED, &mut bad);
     trial(
         counts,

@@ -77,6 +77,7 @@ pub fn states_in(n: u32, steps: u64, shape: u64, seed: u64, list: &mut [u64]) ->
         kind,
         density(kind, n, steps, shape >> 4),
         n,
+        0,
         false,
         seed,
         list,

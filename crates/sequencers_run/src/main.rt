@@ -1,61 +1,101 @@
 // The worked sequencers of the scope, and calls at the edge of each refusal, a line each: the number, the verdict, the questions, the evidence,
 // and what the three stores hold afterwards. The file `stdout` is worked out by hand from the scope.
 
-// Start {0} and bad {3}, of two bits.
-const ZERO: [u64; 4] = [0, 1, 0, 2];
+// Start {0} and bad {3}, of two bits. A clause has four masks: bits wanted 1, bits wanted 0, wires wanted 1, wires wanted 0.
+const ZERO: [u64; 8] = [0, 1, 0, 0, 0, 2, 0, 0];
 
-const THREE: [u64; 4] = [1, 0, 2, 0];
+const THREE: [u64; 8] = [1, 0, 0, 0, 2, 0, 0, 0];
 
 // 0→1→2→0, 3→3, in the clauses of the scope's example file.
-const RING: [u64; 12] = [
+const RING: [u64; 24] = [
     0x2_0000_0000,
     0x0_0000_0001,
+    0,
+    0,
     0x0_0000_0001,
     0x2_0000_0000,
+    0,
+    0,
     0x1_0000_0003,
     0x0_0000_0000,
+    0,
+    0,
     0x1_0000_0000,
     0x0_0000_0003,
+    0,
+    0,
     0x0_0000_0001,
     0x1_0000_0002,
+    0,
+    0,
     0x0_0000_0002,
     0x1_0000_0001,
+    0,
+    0,
 ];
 
 // As RING, and 2→3: from 2 both later bits are the same.
-const LATE: [u64; 14] = [
+const LATE: [u64; 28] = [
     0x2_0000_0000,
     0x0_0000_0001,
+    0,
+    0,
     0x0_0000_0003,
     0x2_0000_0000,
+    0,
+    0,
     0x1_0000_0003,
     0x0_0000_0000,
+    0,
+    0,
     0x1_0000_0000,
     0x0_0000_0003,
+    0,
+    0,
     0x2_0000_0001,
     0x1_0000_0002,
+    0,
+    0,
     0x1_0000_0001,
     0x2_0000_0002,
+    0,
+    0,
     0x0_0000_0002,
     0x1_0000_0001,
+    0,
+    0,
 ];
 
 // 0→0, 2→1→3→0: later bit 1 is 1 from 1 alone, later bit 0 from 1 and 2.
-const CHAIN: [u64; 14] = [
+const CHAIN: [u64; 28] = [
     0x2_0000_0002,
     0x0_0000_0001,
+    0,
+    0,
     0x0_0000_0001,
     0x2_0000_0000,
+    0,
+    0,
     0x0_0000_0000,
     0x2_0000_0002,
+    0,
+    0,
     0x1_0000_0002,
     0x0_0000_0001,
+    0,
+    0,
     0x1_0000_0001,
     0x0_0000_0002,
+    0,
+    0,
     0x0_0000_0003,
     0x1_0000_0000,
+    0,
+    0,
     0x0_0000_0000,
     0x1_0000_0003,
+    0,
+    0,
 ];
 
 // Which list of Ring another one stands for.
@@ -134,6 +174,7 @@ fn write_line<'a>(outcome: call::Outcome, states: &'a [u64], levels: &[u32], pat
 // One call and its line, behind the name.
 fn run(
     n: u32,
+    w: u32,
     start: &[u64],
     step: &[u64],
     bad: &[u64],
@@ -142,7 +183,7 @@ fn run(
     path: &mut [u64],
     allowance: u32,
 ) {
-    let outcome = search::search(n, start, step, bad, states, levels, path, allowance);
+    let outcome = search::search(n, w, start, step, bad, states, levels, path, allowance);
     write_line(outcome, states, levels, path);
 }
 
@@ -158,6 +199,7 @@ fn filled_levels() -> [u32; 65540] {
 // A call with stores of these lengths.
 fn lend(
     n: u32,
+    w: u32,
     start: &[u64],
     step: &[u64],
     bad: &[u64],
@@ -174,6 +216,7 @@ fn lend(
     let most = most % 65540;
     run(
         n,
+        w,
         start,
         step,
         bad,
@@ -184,10 +227,10 @@ fn lend(
     );
 }
 
-// A call with the usual room.
-fn lend_usual(name: &[u8], n: u32, start: &[u64], step: &[u64], bad: &[u64]) {
+// A call with two bits, so many wires and the usual room.
+fn lend_usual(name: &[u8], w: u32, start: &[u64], step: &[u64], bad: &[u64]) {
     write(name);
-    lend(n, start, step, bad, ROOM, ROOM, ROOM + 2, ENOUGH);
+    lend(2, w, start, step, bad, ROOM, ROOM, ROOM + 2, ENOUGH);
 }
 
 // What of a call's room and allowance is not as usual.
@@ -206,7 +249,7 @@ fn lend_room(name: &[u8], start: &[u64], step: &[u64], room: usize, allowance: u
     let most = std::num::wrapping_add_usize(room, 2);
     write(name);
     write_limits(room, allowance);
-    lend(2, start, step, &bad, room, room, most, allowance);
+    lend(2, 0, start, step, &bad, room, room, most, allowance);
 }
 
 // Ring with other steps.
@@ -217,33 +260,33 @@ fn lend_steps(name: &[u8], step: &[u64], room: usize, allowance: u32) {
 
 // Ring without a start state.
 fn lend_nowhere(room: usize, allowance: u32) {
-    let start = [0u64; 2];
+    let start = [0u64; 4];
     let step = RING;
     lend_room(b"Ring, start false", &start, &step, room, allowance);
 }
 
-// Ring with another list.
-fn lend_list(name: &[u8], which: u64, list: &[u64]) {
+// Ring with wires and another list.
+fn lend_list(name: &[u8], w: u32, which: u64, list: &[u64]) {
     let start = ZERO;
     let step = RING;
     let bad = THREE;
     match which {
-        START => lend_usual(name, 2, list, &step, &bad),
-        STEP => lend_usual(name, 2, &start, list, &bad),
-        _ => lend_usual(name, 2, &start, &step, list),
+        START => lend_usual(name, w, list, &step, &bad),
+        STEP => lend_usual(name, w, &start, list, &bad),
+        _ => lend_usual(name, w, &start, &step, list),
     }
 }
 
 // Ring with a list of one clause.
 fn lend_clause(name: &[u8], which: u64, ones: u64, zeros: u64) {
-    let list = [ones, zeros];
-    lend_list(name, which, &list);
+    let list = [ones, zeros, 0, 0];
+    lend_list(name, 0, which, &list);
 }
 
 fn lend_all_bad(name: &[u8]) {
     let step = RING;
     let none = [0u64; 0];
-    lend_usual(name, 2, &none, &step, &none);
+    lend_usual(name, 0, &none, &step, &none);
 }
 
 fn sequencers() {
@@ -279,11 +322,11 @@ fn other_lists() {
 
 // Each state steps to each: from the least with this bit 0 to the least with it 1. With no bit, start and bad are a false clause each.
 fn lend_free(n: u32, bit: u64) {
-    let start = [0u64, bit];
+    let start = [0u64, bit, 0, 0];
     let step = [0u64; 0];
-    let bad = [bit, 0u64];
+    let bad = [bit, 0u64, 0, 0];
     write_number(b"n = ", wide(n));
-    lend(n, &start, &step, &bad, ROOM, ROOM, ROOM + 2, ENOUGH);
+    lend(n, 0, &start, &step, &bad, ROOM, ROOM, ROOM + 2, ENOUGH);
 }
 
 fn sizes() {
@@ -293,30 +336,40 @@ fn sizes() {
     lend_free(33, 1);
 }
 
-fn odd_counts() {
+// Ring with this many wires, which no clause uses.
+fn lend_wires(w: u32) {
     let start = ZERO;
     let step = RING;
     let bad = THREE;
-    lend_list(b"odd start", START, &start[..3]);
-    lend_list(b"odd step", STEP, &step[..11]);
-    lend_list(b"odd bad", BAD, &bad[..1]);
+    write_number(b"Ring, w = ", wide(w));
+    lend_usual(b"", w, &start, &step, &bad);
+}
+
+// Counts of masks that are no multiple of four.
+fn wrong_counts() {
+    let start = ZERO;
+    let step = RING;
+    let bad = THREE;
+    lend_list(b"one mask too few in start", 0, START, &start[..7]);
+    lend_list(b"two masks too few in step", 0, STEP, &step[..22]);
+    lend_list(b"three masks too few in bad", 0, BAD, &bad[..1]);
 }
 
 // A list of so many zero masks: all its clauses are false.
 fn lend_zeros(name: &[u8], which: u64, masks: usize) {
-    let list = [0u64; 8194];
-    let masks = masks % 8195;
-    lend_list(name, which, &list[..masks]);
+    let list = [0u64; 16388];
+    let masks = masks % 16389;
+    lend_list(name, 0, which, &list[..masks]);
 }
 
 // There is no start state, no step, or no bad state.
 fn many_clauses() {
-    lend_zeros(b"4096 start clauses", START, 8192);
-    lend_zeros(b"4097 start clauses", START, 8194);
-    lend_zeros(b"4096 step clauses", STEP, 8192);
-    lend_zeros(b"4097 step clauses", STEP, 8194);
-    lend_zeros(b"4096 bad clauses", BAD, 8192);
-    lend_zeros(b"4097 bad clauses", BAD, 8194);
+    lend_zeros(b"4096 start clauses", START, 16384);
+    lend_zeros(b"4097 start clauses", START, 16388);
+    lend_zeros(b"4096 step clauses", STEP, 16384);
+    lend_zeros(b"4097 step clauses", STEP, 16388);
+    lend_zeros(b"4096 bad clauses", BAD, 16384);
+    lend_zeros(b"4097 bad clauses", BAD, 16388);
 }
 
 fn bits() {
@@ -327,6 +380,23 @@ fn bits() {
     lend_clause(b"later bit 0 in bad", BAD, 0x1_0000_0000, 0);
 }
 
+// Ring with 3 wires and a list of one clause, a wire wanted 1.
+fn lend_wire(name: &[u8], which: u64, wire: u64) {
+    let list = [0, 0, wire, 0];
+    lend_list(name, 3, which, &list);
+}
+
+// A wire that is wanted 1 can be: the clause says nothing, so every state is bad, or steps to every one.
+fn wires() {
+    lend_wires(64);
+    lend_wires(65);
+    lend_wire(b"wire 0 of 3 in start", START, 1);
+    lend_wire(b"wire 2 of 3 in step", STEP, 4);
+    lend_wire(b"wire 3 of 3 in step", STEP, 8);
+    lend_wire(b"wire 2 of 3 in bad", BAD, 4);
+    lend_wire(b"wire 3 of 3 in bad", BAD, 8);
+}
+
 // Ring with stores of these lengths, which stand behind the name.
 fn lend_stores(name: &[u8], room: usize, others: usize, most: usize) {
     let start = ZERO;
@@ -335,7 +405,7 @@ fn lend_stores(name: &[u8], room: usize, others: usize, most: usize) {
     write_number(name, room as u64);
     write_number(b" ", others as u64);
     write_number(b" ", most as u64);
-    lend(2, &start, &step, &bad, room, others, most, ENOUGH);
+    lend(2, 0, &start, &step, &bad, room, others, most, ENOUGH);
 }
 
 // A path store of two more than the room is enough, one more is not.
@@ -359,9 +429,9 @@ fn long_stores(name: &[u8]) {
 // Ring with this start list, a bad list that uses bit 2, and a path store that is too short.
 fn lend_wrong(name: &[u8], n: u32, start: &[u64]) {
     let step = RING;
-    let bad = [4u64, 0];
+    let bad = [4u64, 0, 0, 0];
     write(name);
-    lend(n, start, &step, &bad, ROOM, ROOM, ROOM + 1, ENOUGH);
+    lend(n, 0, start, &step, &bad, ROOM, ROOM, ROOM + 1, ENOUGH);
 }
 
 // Several refusals apply: the least is given.
@@ -377,9 +447,10 @@ fn main() {
     chains();
     other_lists();
     sizes();
-    odd_counts();
+    wrong_counts();
     many_clauses();
     bits();
+    wires();
     short_stores(b"Ring, stores ");
     long_stores(b"Ring, fronts of stores ");
     order();

@@ -1,4 +1,4 @@
-// Small random systems, of 1 to 10 bits, and a walk over all their states, on the tables of `tables`. It shares no code with the crates that it is
+// Small random systems, of 1 to 10 bits and a few wires, and a walk over all their states, on the tables of `tables`. It shares no code with the crates that it is
 // compared with. Each function takes every argument.
 
 // What `distances` says of a state that no way leads to.
@@ -7,7 +7,8 @@ pub const NEVER: u32 = 0xFFFF_FFFF;
 // Kinds of lists. NOTHING is one clause of two zero masks, EVERYTHING the empty list. CLAUSES has as many short clauses as the density says. The
 // others give what is true explicitly, with a clause for each state or pair left out: SOME of them, by the density; steps to the next state alone;
 // these and from each state to itself; steps to no higher state. COUNTER has steps to the next state alone too, in a few clauses; with an odd density
-// the highest state has no next one, else 0 comes after it.
+// the highest state has no next one, else 0 comes after it. Short clauses may use wires. GATES is a circuit: a wire is free or the AND of two
+// literals, and one step later each bit is as a literal; of states alone, that a literal is true.
 pub const NOTHING: u64 = 0;
 
 pub const EVERYTHING: u64 = 1;
@@ -24,13 +25,24 @@ pub const DOWN: u64 = 6;
 
 pub const COUNTER: u64 = 7;
 
+pub const GATES: u64 = 8;
+
 const NONE: u64 = 0xFFFF_FFFF_FFFF_FFFF;
 
-// A clause, if one is to be written.
+// A clause, if one is to be written: bits wanted 1, bits wanted 0, wires wanted 1, wires wanted 0.
 pub struct Clause {
     pub there: bool,
     pub ones: u64,
     pub zeros: u64,
+    pub on: u64,
+    pub off: u64,
+}
+
+// A literal: a position of the pair, or a wire, and the value wanted there.
+struct Literal {
+    pair: u64,
+    wire: u64,
+    one: bool,
 }
 
 // A clause that is to be written.
@@ -39,6 +51,57 @@ fn written(ones: u64, zeros: u64) -> Clause {
         there: true,
         ones,
         zeros,
+        on: 0,
+        off: 0,
+    }
+}
+
+// The clause with a literal more.
+fn with(c: Clause, l: Literal) -> Clause {
+    let ones = if l.one { l.pair } else { 0 };
+    let on = if l.one { l.wire } else { 0 };
+    Clause {
+        there: c.there,
+        ones: c.ones | ones,
+        zeros: c.zeros | l.pair ^ ones,
+        on: c.on | on,
+        off: c.off | l.wire ^ on,
+    }
+}
+
+// The clause, if it is so.
+fn only(there: bool, c: Clause) -> Clause {
+    Clause {
+        there,
+        ones: c.ones,
+        zeros: c.zeros,
+        on: c.on,
+        off: c.off,
+    }
+}
+
+// The literal of a wire, or of a bit one step later, wanted 1.
+fn of_wire(k: u64) -> Literal {
+    Literal {
+        pair: 0,
+        wire: 1 << (k % 64),
+        one: true,
+    }
+}
+
+fn of_later(k: u64) -> Literal {
+    Literal {
+        pair: 1 << (k % 32 + 32),
+        wire: 0,
+        one: true,
+    }
+}
+
+fn not(l: Literal) -> Literal {
+    Literal {
+        pair: l.pair,
+        wire: l.wire,
+        one: !l.one,
     }
 }
 
@@ -47,6 +110,17 @@ pub fn next(seed: u64) -> u64 {
     let a = seed ^ (seed << 13);
     let b = a ^ (a >> 7);
     b ^ (b << 17)
+}
+
+// A digest of a list that begins with another.
+pub fn digest(seed: u64, list: &[u64]) -> u64 {
+    let mut d = seed;
+    let mut j = 0;
+    while j < list.len() {
+        d = next(d ^ list[j]);
+        j += 1;
+    }
+    d
 }
 
 // The first `count` numbers, or all if there are fewer.
@@ -68,22 +142,73 @@ fn chosen(kind: u64, density: u64, n: u32, s: u64, t: u64, random: u64) -> bool 
     (kind == EVERYTHING) | some & lucky | chain
 }
 
-// A literal as a mask, from eight random bits, if it has the wanted sign.
-fn literal(n: u32, later: bool, wanted: u64, bits: u64) -> u64 {
-    if n == 0 {
-        return 0;
+// A literal from eight random bits: the value, the place among n bits and behind them w wires, and, if later bits are allowed, whether a bit is one.
+fn of_bits(n: u32, w: u32, later: bool, bits: u64) -> Literal {
+    let one = bits % 2 == 1;
+    let wires = n as u64;
+    let all = wires + w as u64;
+    let place = if all == 0 { 0 } else { (bits >> 1) % 64 % all };
+    if place < wires {
+        let high = if later { (bits >> 2) & 32 } else { 0 };
+        return Literal {
+            pair: 1 << ((place | high) % 64),
+            wire: 0,
+            one,
+        };
     }
-    let place = (bits >> 1) % 64 % (n as u64);
-    let high = if later { (bits >> 2) & 32 } else { 0 };
-    ((bits ^ wanted ^ 1) % 2) << ((place | high) % 64)
+    Literal {
+        pair: 0,
+        wire: 1 << ((place - wires) % 64),
+        one,
+    }
 }
 
-// A mask of three literals, or of two, where the first comes twice.
-fn literals(n: u32, later: bool, wanted: u64, random: u64) -> u64 {
+// A clause of three literals, or of two, where the first comes twice.
+fn short(n: u32, w: u32, later: bool, random: u64) -> Clause {
     let third = random >> ((random >> 24) % 2 * 16);
-    literal(n, later, wanted, random)
-        | literal(n, later, wanted, random >> 8)
-        | literal(n, later, wanted, third)
+    let c = with(written(0, 0), of_bits(n, w, later, random));
+    let c = with(c, of_bits(n, w, later, random >> 8));
+    with(c, of_bits(n, w, later, third))
+}
+
+// One of the three clauses that wire k is the AND of two literals of bits and lower wires; none, if it is free.
+fn gate(n: u32, k: u32, clause: u64, random: u64) -> Clause {
+    let a = of_bits(n, k, false, random >> 32);
+    let b = of_bits(n, k, false, random >> 40);
+    let x = of_wire(k as u64);
+    let c = match clause {
+        0 => with(with(written(0, 0), not(x)), a),
+        1 => with(with(written(0, 0), not(x)), b),
+        _ => with(with(with(written(0, 0), x), not(a)), not(b)),
+    };
+    only((random >> 48) % 4 != 0, c)
+}
+
+// One of the two clauses that bit k is one step later as a literal.
+fn latch(n: u32, w: u32, k: u64, clause: u64, random: u64) -> Clause {
+    let a = of_bits(n, w, false, random >> 32);
+    let t = of_later(k);
+    match clause {
+        0 => with(with(written(0, 0), not(t)), a),
+        1 => with(with(written(0, 0), t), not(a)),
+        _ => only(false, written(0, 0)),
+    }
+}
+
+// Clause j of a circuit: three for each wire, and three behind them for each bit; of states alone, one behind the wires.
+fn circuit(n: u32, w: u32, later: bool, j: u64, random: u64) -> Clause {
+    let wires = w as u64;
+    let k = j / 3;
+    if k < wires {
+        return gate(n, k as u32, j % 3, random);
+    }
+    if later {
+        return latch(n, w, k - wires, j % 3, random);
+    }
+    only(
+        j == wires * 3,
+        with(written(0, 0), of_bits(n, w, false, random >> 32)),
+    )
 }
 
 // Clause j of a counter, about bit i. If bit c, below it, is 0, then bit i stays; if all bits below it are 1, it changes. Behind them the clause that
@@ -104,11 +229,7 @@ fn counting(n: u32, j: u64) -> Clause {
         return written(0, below | two);
     }
     let stays = 1 << c | bit << (j % 2 * 32);
-    Clause {
-        there: c < i,
-        ones: stays,
-        zeros: (stays | two) ^ stays,
-    }
+    only(c < i, written(stays, (stays | two) ^ stays))
 }
 
 // Clause j of an explicit list: that which is false of pair j, or state j, alone.
@@ -118,59 +239,73 @@ fn explicit(kind: u64, density: u64, n: u32, later: bool, j: u64, random: u64) -
     let half = tables::low(n, NONE);
     let all = if later { half | half << 32 } else { half };
     let pair = s | t << 32;
-    Clause {
-        there: !chosen(kind, density, n, s, t, random),
-        ones: all ^ pair,
-        zeros: pair,
-    }
+    only(
+        !chosen(kind, density, n, s, t, random),
+        written(all ^ pair, pair),
+    )
 }
 
 // Clause j of a list.
-fn made(kind: u64, density: u64, n: u32, later: bool, j: u64, random: u64) -> Clause {
+fn made(kind: u64, density: u64, n: u32, w: u32, later: bool, j: u64, random: u64) -> Clause {
     match kind {
-        NOTHING => Clause {
-            there: j == 0,
-            ones: 0,
-            zeros: 0,
-        },
-        CLAUSES => written(literals(n, later, 1, random), literals(n, later, 0, random)),
+        NOTHING => only(j == 0, written(0, 0)),
+        CLAUSES => short(n, w, later, random),
         COUNTER => counting(n, j),
+        GATES => circuit(n, w, later, j, random),
         _ => explicit(kind, density, n, later, j, random),
     }
 }
 
 // A clause written, if it is there and has room; the count of masks after it.
 fn put(list: &mut [u64], count: usize, c: Clause) -> usize {
-    if count < list.len() {
-        let second = count + 1;
-        if c.there && second < list.len() {
-            list[count] = c.ones;
-            list[second] = c.zeros;
-            return second + 1;
-        }
+    if !c.there {
+        return count;
     }
-    count
+    if list.len() <= count {
+        return count;
+    }
+    if list.len() - count < 4 {
+        return count;
+    }
+    list[count] = c.ones;
+    list[count + 1] = c.zeros;
+    list[count + 2] = c.on;
+    list[count + 3] = c.off;
+    count + 4
 }
 
 // How many clauses a list can have.
-fn most(kind: u64, density: u64, n: u32, later: bool) -> u64 {
+fn most(kind: u64, density: u64, n: u32, w: u32, later: bool) -> u64 {
     let bits = if later { n % 16 * 2 } else { n % 16 };
     match kind {
         CLAUSES => density % (1 << 32),
         COUNTER => (n % 16 * 32) as u64 + density % 2,
+        GATES => (w % 64 + n % 16) as u64 * 3,
         _ => 1 << (bits % 32),
     }
 }
 
-// A random list: of steps, or of states alone. The count of masks written.
-pub fn fill(kind: u64, density: u64, n: u32, later: bool, seed: u64, list: &mut [u64]) -> usize {
-    let end = most(kind, density, n, later);
+// A random list: of steps, or of states alone. The count of masks written. The three clauses about a wire or a bit come from one random number.
+pub fn fill(
+    kind: u64,
+    density: u64,
+    n: u32,
+    w: u32,
+    later: bool,
+    seed: u64,
+    list: &mut [u64],
+) -> usize {
+    let end = most(kind, density, n, w, later);
     let mut random = seed;
     let mut count = 0;
     let mut j = 0;
     while j < end {
-        random = next(random);
-        count = put(list, count, made(kind, density, n, later, j, random));
+        random = if (kind == GATES) & (j % 3 != 0) {
+            random
+        } else {
+            next(random)
+        };
+        count = put(list, count, made(kind, density, n, w, later, j, random));
         j += 1;
     }
     count
@@ -248,6 +383,27 @@ pub fn are_states(n: u32, list: &[u64]) -> bool {
         j += 1;
     }
     true
+}
+
+// Whether entry j counts at level i; one with no level beside it does.
+fn at_level(levels: &[u32], j: usize, i: u32) -> bool {
+    if j < levels.len() {
+        i <= levels[j]
+    } else {
+        true
+    }
+}
+
+// Whether the state is stored with a level of i or more.
+pub fn is_stored(states: &[u64], levels: &[u32], i: u32, state: u64) -> bool {
+    let mut j = states.len();
+    while 0 < j {
+        j -= 1;
+        if state == states[j] && at_level(levels, j, i) {
+            return true;
+        }
+    }
+    false
 }
 
 // Which states are listed.

@@ -3,3 +3,4 @@ pub mod Clauses
 pub mod Lists
 pub mod Refusals
 pub mod Sentences
+pub mod Plain

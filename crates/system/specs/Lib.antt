@@ -1,2 +1,3 @@
 -- The root of the definitions.
 pub mod System
+pub mod Plain

@@ -10,7 +10,7 @@ unfolding scanStores
 returns c =
     let p = c .before .before in
     let s = p .before .before .before .before .before .before .before .search in
-    let last = s .last .1 .1 .1 .1 in
+    let last = s .last .1 .1 .1 .1 .1 in
     rw (levels-apart (s .result) (last .0) (last .1 .1 .0) _ _ (s .ensures .equation)) (p .put-outcome .ensures)
 
 pub solve-spec : {M : Type 1} → statement M

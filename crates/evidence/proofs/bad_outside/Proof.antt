@@ -8,7 +8,7 @@ use Rattle.evidence.proofs.bad_outside.Tie as tie
 
 returns : tie.Need-returns
 unfolding outside
-returns c = c .bad-in .ensures ∙ bad-outside _ _ _ _ _ (c .before .before .before .before .before .pre)
+returns c = c .bad-in .ensures ∙ bad-outside _ _ _ _ _ _ (c .before .before .before .before .before .pre)
 
 pub bad-outside-spec : {M : Type 1} → statement M
 bad-outside-spec =

@@ -20,7 +20,7 @@ returns-2 c =
 returns-3 : tie.Need-returns-3
 returns-3 c =
     let past = c .before .before .before .before in
-    path-of-others _ _ (sym (past .before .refusal .ensures) ∙ past .if1 .left) (omega arith) (sym (c .before .list-true .ensures) ∙ not-true _ (c .if3 .taken))
+    path-of-others _ _ (sym (past .before .refusal .ensures) ∙ past .if1 .left) (omega arith) (sym (c .before .is-start .ensures) ∙ not-true _ (c .if3 .taken))
 
 leads-on-requires : tie.Need-leads-on-requires
 leads-on-requires c κs =
@@ -32,7 +32,7 @@ returns-4 c =
     let begins = c .before .before in
     let past = begins .before .before .before .before in
     path-to-bad _ _ (sym (past .before .refusal .ensures) ∙ past .if1 .left) (omega arith)
-    (sym (begins .before .list-true .ensures) ∙ not-false _ (begins .if3 .left))
+    (sym (begins .before .is-start .ensures) ∙ not-false _ (begins .if3 .left))
     (sym (c .before .leads-on .ensures) ∙ c .if4 .taken)
 
 returns-5 : tie.Need-returns-5
@@ -40,7 +40,7 @@ returns-5 c =
     let begins = c .before .before in
     let past = begins .before .before .before .before in
     path-astray _ _ (sym (past .before .refusal .ensures) ∙ past .if1 .left) (omega arith)
-    (sym (begins .before .list-true .ensures) ∙ not-false _ (begins .if3 .left))
+    (sym (begins .before .is-start .ensures) ∙ not-false _ (begins .if3 .left))
     (sym (c .before .leads-on .ensures) ∙ c .if4 .left)
 
 pub check-path-spec : {M : Type 1} → statement M

@@ -6,20 +6,20 @@ use native.Mathlib.Omega.{arith}
 use borrow.Author.Needs.{needs}
 use lib.ListN.{length, drop}
 use Rattle.question.specs.Question.{answered}
-use Rattle.system.specs.System.{listTrue, pair}
+use Rattle.system.specs.System.{someTrue, pair}
 use Rattle.evidence.specs.Check.{closedFrom}
 use Rattle.evidence.proofs.Excluding.{closed-stops, closed-passes, closed-ends}
 use Rattle.evidence.proofs.closed.Statement.{statement}
 use Rattle.evidence.proofs.closed.Tie as tie
 
 abbrev Inv-loop : tie.InvT-loop
-Inv-loop n step states asked₀ j₀ asked j =
+Inv-loop free step states asked₀ j₀ asked j =
     (j ≤ length states) × (asked ≡ j + 1)
-    × (closedFrom (2 ^ n) (λ s t. listTrue step (pair s t)) states states 1
-    ≡ closedFrom (2 ^ n) (λ s t. listTrue step (pair s t)) states (drop j states) asked)
+    × (closedFrom (2 ^ free .n) (λ s t. someTrue (free .w) step (pair s t)) states states 1
+    ≡ closedFrom (2 ^ free .n) (λ s t. someTrue (free .w) step (pair s t)) states (drop j states) asked)
 
 abbrev μ-loop : tie.MeasureT-loop
-μ-loop n step states asked₀ j₀ asked j = length states - j
+μ-loop free step states asked₀ j₀ asked j = length states - j
 
 loop-holds : tie.Need-loop-holds Inv-loop μ-loop
 loop-holds c = (search needs, search needs, refl)

@@ -1,64 +1,55 @@
 -- `evidence::leads_on` meets its contract. The loop's invariant: from index j on the path leads where the whole path leads. The measure is what is left
--- of the length. A pair has both states, as each is below 2^32. Assumes nothing.
+-- of the length. What is asked of the low halves is asked of the states, as each is below 2^32. Assumes nothing.
 use Prim.Native.Nat.{_<_, _-_}
 use mathlib.Core.Path.{_≡_, refl, sym, _∙_}
-use native.Mathlib.Omega.{arith}
 use borrow.Author.Needs.{needs}
 use borrow.Author.Tests.{not-true, not-false}
 use lib.ListN.{length, drop}
-use Rattle.system.specs.System.{listTrue, pair}
+use Rattle.system.specs.System.{someTrue, pair}
 use Rattle.evidence.specs.Check.{leadsOn}
-use Rattle.evidence.proofs.Each.{below-at}
-use Rattle.evidence.proofs.Paths.{leads-stops, leads-passes, leads-ends}
+use Rattle.evidence.proofs.Paths.{leads-stops, leads-passes, leads-ends, step-asked, bad-asked}
 use Rattle.evidence.proofs.leads_on.Statement.{statement}
 use Rattle.evidence.proofs.leads_on.Tie as tie
 
 abbrev Inv-loop : tie.InvT-loop
-Inv-loop step bad path j₀ j =
+Inv-loop n w step bad path free-step j₀ j =
     (j < length path)
-    × (leadsOn (λ s t. listTrue step (pair s t)) (listTrue bad) path
-    ≡ leadsOn (λ s t. listTrue step (pair s t)) (listTrue bad) (drop j path))
+    × (leadsOn (λ s t. someTrue w step (pair s t)) (someTrue w bad) path
+    ≡ leadsOn (λ s t. someTrue w step (pair s t)) (someTrue w bad) (drop j path))
 
 abbrev μ-loop : tie.MeasureT-loop
-μ-loop step bad path j₀ j = length path - j
+μ-loop n w step bad path free-step j₀ j = length path - j
 
 loop-holds : tie.Need-loop-holds Inv-loop μ-loop
 loop-holds c = (search needs, refl)
 
-mul-list-true-3 : tie.Need-mul-list-true-3 Inv-loop μ-loop
-mul-list-true-3 c =
-    let at-loop = c .before .before .before in
-    let start = at-loop .before .before .before .before in
-    record { fits = omega (arith, below-at _ _ _ (c .before .before .loop-test .taken) (start .pre .1)) }
-
-add-list-true-2 : tie.Need-add-list-true-2 Inv-loop μ-loop
-add-list-true-2 c =
-    let at-loop = c .before .before .before in
-    let small = at-loop .before .before .before .before .pre .1 in
-    record { fits = omega (arith, below-at _ _ _ (c .before .before .loop-test .taken) small, below-at _ _ _ (at-loop .loop .inv .0) small) }
-
 returns : tie.Need-returns Inv-loop μ-loop
-unfolding pair
 returns c =
     let called = c .before in
     let in-loop = called .before .before .before in
-    sym (in-loop .before .loop .inv .1
-    ∙ leads-stops _ _ _ _ (in-loop .loop-test .taken) (sym (called .list-true .ensures) ∙ not-true _ (c .if1 .taken)))
+    let begun = in-loop .before .before in
+    let small = begun .before .before .before .before .pre .1 in
+    let asked = called .some-true .ensures ∙ step-asked (begun .free .ensures .1) _ _ small _ (in-loop .loop-test .taken) in
+    sym (in-loop .before .loop .inv .1 ∙ leads-stops _ _ _ _ (in-loop .loop-test .taken) (sym asked ∙ not-true _ (c .if1 .taken)))
 
 loop-again : tie.Need-loop-again Inv-loop μ-loop
-unfolding pair
 loop-again c =
     let called = c .before in
-    let in-loop = called .before .before .before in (
+    let in-loop = called .before .before .before in
+    let begun = in-loop .before .before in
+    let small = begun .before .before .before .before .pre .1 in
+    let asked = called .some-true .ensures ∙ step-asked (begun .free .ensures .1) _ _ small _ (in-loop .loop-test .taken) in (
       in-loop .loop-test .taken,
-      in-loop .before .loop .inv .1
-          ∙ leads-passes _ _ _ _ (in-loop .loop-test .taken) (sym (called .list-true .ensures) ∙ not-false _ (c .if1 .left)),
+      in-loop .before .loop .inv .1 ∙ leads-passes _ _ _ _ (in-loop .loop-test .taken) (sym asked ∙ not-false _ (c .if1 .left)),
     )
 
 returns-2 : tie.Need-returns-2 Inv-loop μ-loop
 returns-2 c =
-    let after = c .before .before in
-    sym (after .before .loop .inv .1 ∙ leads-ends _ _ _ _ (after .before .loop .inv .0) (after .loop-test .left) ∙ sym (c .list-true2 .ensures))
+    let made = c .before .before in
+    let at-loop = made .before .before in
+    let small = at-loop .before .before .before .before .before .pre .1 in
+    let asked = c .some-true2 .ensures ∙ bad-asked (made .free2 .ensures .1) _ _ small _ (at-loop .loop .inv .0) in
+    sym (at-loop .loop .inv .1 ∙ leads-ends _ _ _ _ (at-loop .loop .inv .0) (made .before .loop-test .left) ∙ sym asked)
 
 pub leads-on-spec : {M : Type 1} → statement M
 leads-on-spec =
@@ -66,6 +57,7 @@ leads-on-spec =
     (tie.spec
     Inv-loop
     μ-loop
+    (λ c κs. search needs)
     loop-holds
     (λ c. search needs)
     (λ c. search needs)
@@ -73,13 +65,12 @@ leads-on-spec =
     (λ c. search needs)
     (λ c. search needs)
     (λ c. search needs)
-    mul-list-true-3
-    add-list-true-2
     (λ c κs. search needs)
     returns
     (λ c. search needs)
     (λ c. search needs)
     loop-again
+    (λ c κs. search needs)
     (λ c. search needs)
     (λ c. search needs)
     (λ c κs. search needs)

@@ -11,7 +11,7 @@ returns : tie.Need-returns
 returns c = number-refused _ _ _ (c .before .refusal .ensures) (c .if1 .taken)
 
 all-below-requires : tie.Need-all-below-requires
-all-below-requires c κs = size-right _ (refusal-none _ (sym (c .before .refusal .ensures) ∙ c .if1 .left) .0) .1
+all-below-requires c κs = size-right _ _ (refusal-none _ (sym (c .before .refusal .ensures) ∙ c .if1 .left) .0) .1
 
 returns-2 : tie.Need-returns-2
 returns-2 c =

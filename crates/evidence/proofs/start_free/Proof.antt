@@ -11,7 +11,7 @@ use Rattle.evidence.proofs.start_free.Statement.{statement}
 use Rattle.evidence.proofs.start_free.Tie as tie
 
 abbrev Inv-loop : tie.InvT-loop
-Inv-loop start states j₀ j = Walked (λ x. not (listTrue start x)) states j
+Inv-loop start states j₀ j = Walked (λ x. not (listTrue start x 0)) states j
 
 abbrev μ-loop : tie.MeasureT-loop
 μ-loop start states j₀ j = length states - j
@@ -22,12 +22,12 @@ loop-holds c = (search needs, refl)
 returns : tie.Need-returns Inv-loop μ-loop
 returns c =
     let in-loop = c .before .before .before in
-    each-stops _ _ _ (in-loop .before .loop .inv) (in-loop .loop-test .taken) (ap not (sym (c .before .list-true .ensures) ∙ c .if1 .taken))
+    each-stops _ _ _ (in-loop .before .loop .inv) (in-loop .loop-test .taken) (ap not (sym (c .before .is-start .ensures) ∙ c .if1 .taken))
 
 loop-again : tie.Need-loop-again Inv-loop μ-loop
 loop-again c =
     let in-loop = c .before .before .before in
-    each-passes _ _ _ (in-loop .before .loop .inv) (in-loop .loop-test .taken) (ap not (sym (c .before .list-true .ensures) ∙ c .if1 .left))
+    each-passes _ _ _ (in-loop .before .loop .inv) (in-loop .loop-test .taken) (ap not (sym (c .before .is-start .ensures) ∙ c .if1 .left))
 
 returns-2 : tie.Need-returns-2 Inv-loop μ-loop
 returns-2 c = each-ends _ _ _ (c .before .loop .inv) (c .loop-test .left)

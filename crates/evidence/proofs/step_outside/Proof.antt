@@ -8,7 +8,7 @@ use Rattle.evidence.proofs.step_outside.Tie as tie
 
 returns : tie.Need-returns
 unfolding outside
-returns c = c .step-in .ensures ∙ step-outside _ _ _ _ _ (c .before .before .before .before .before .pre) _
+returns c = c .step-in .ensures ∙ step-outside _ _ _ _ _ _ (c .before .before .before .before .before .pre) _
 
 pub step-outside-spec : {M : Type 1} → statement M
 step-outside-spec =

@@ -6,7 +6,7 @@ use mathlib.Core.Path.{sym, ap, _∙_}
 use native.Mathlib.Omega.{arith}
 use borrow.Author.Needs.{needs}
 use lib.ListN.{length}
-use Rattle.system.specs.System.{listTrue, pair}
+use Rattle.system.specs.System.{someTrue, pair}
 use Rattle.question.specs.Question.{answered}
 use Rattle.question.proofs.Ranges.{is-between}
 use Rattle.into.proofs.Filling.{Filling, filling-small, filling-none, filling-more, filled, overfull}
@@ -14,10 +14,10 @@ use Rattle.into.proofs.fill.Statement.{statement}
 use Rattle.into.proofs.fill.Tie as tie
 
 abbrev Inv-loop : tie.InvT-loop
-Inv-loop n step state lent count₀ from₀ store count from = Filling (2 ^ n) (λ s. listTrue step (pair s state)) lent store count from
+Inv-loop free step state lent count₀ from₀ store count from = Filling (2 ^ free .n) (λ s. someTrue (free .w) step (pair s state)) lent store count from
 
 abbrev μ-loop : tie.MeasureT-loop
-μ-loop n step state lent count₀ from₀ store count from = length lent - count
+μ-loop free step state lent count₀ from₀ store count from = length lent - count
 
 loop-holds : tie.Need-loop-holds Inv-loop μ-loop
 loop-holds c = filling-none _ _ _

@@ -9,13 +9,15 @@ returns : tie.Need-returns
 returns c = promised-refused _ _ _ _ (c .before .refusal .ensures) (c .if1 .taken)
 
 fill-requires : tie.Need-fill-requires
-fill-requires c κs = refused-small _ _ (sym (c .before .before .refusal .ensures) ∙ c .before .if1 .left)
+fill-requires c κs =
+    let past = c .before .before in
+    refused-small _ _ (sym (past .before .refusal .ensures) ∙ past .if1 .left)
 
 returns-2 : tie.Need-returns-2
 returns-2 c =
     let filled = c .before .before in
-    let past = filled .before .before in
+    let past = filled .before .before .before in
     promised-filled _ _ _ _ _ (sym (past .before .refusal .ensures) ∙ past .if1 .left) (filled .fill .ensures)
 
 pub list-spec : {M : Type 1} → statement M
-list-spec = tie.close (tie.spec (λ c κs. search needs) returns fill-requires (λ c. search needs) returns-2)
+list-spec = tie.close (tie.spec (λ c κs. search needs) returns (λ c κs. search needs) fill-requires (λ c. search needs) returns-2)

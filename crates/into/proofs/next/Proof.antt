@@ -6,7 +6,7 @@ use Rattle.into.proofs.next.Statement.{statement}
 use Rattle.into.proofs.next.Tie as tie
 
 returns : tie.Need-returns
-returns c = c .step-in .ensures ∙ step-anywhere _ _ _ _ _ _ (c .before .before .before .before .before .pre)
+returns c = c .step-in .ensures ∙ step-anywhere _ _ _ _ _ _ _ (c .before .before .before .before .before .pre)
 
 pub next-spec : {M : Type 1} → statement M
 next-spec =

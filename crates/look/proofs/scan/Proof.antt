@@ -20,7 +20,7 @@ loop-holds c = ⊎-elim (λ w. omega arith) (λ w. omega arith) (c .if1 .came)
 
 returns : tie.Need-returns Inv-loop μ-loop
 returns c =
-    let at-loop = c .before .before .before .before .before .before in
+    let at-loop = c .before .before .before .before .before .before .before .before in
     let start = at-loop .before .before .before in
     list-scanned (start .args .list .now) (at-loop .loop .j) (omega arith) (start .args .s)
     (c .before .clause .result) (c .before .clause .ensures)
@@ -35,6 +35,14 @@ scan-spec =
     Inv-loop
     μ-loop
     loop-holds
+    (λ c. search needs)
+    (λ c. search needs)
+    (λ c. search needs)
+    (λ c. search needs)
+    (λ c. search needs)
+    (λ c. search needs)
+    (λ c. search needs)
+    (λ c. search needs)
     (λ c. search needs)
     (λ c. search needs)
     (λ c. search needs)

@@ -4,17 +4,18 @@ use Prim.Native.Nat.{_-_, min, _≤_}
 use borrow.Author.Needs.{needs}
 use native.Mathlib.Omega.{arith}
 use lib.Pow.{pow-pos}
-use Rattle.look.specs.Condition.{condition}
+use Rattle.look.specs.Condition.{region}
 use Rattle.question.proofs.Ranges.{Free}
 use Rattle.question.proofs.Blocks.{wider, block-length, passes, asked-here, asked-on, asked-none}
 use Rattle.question.proofs.ask.Statement.{statement}
 use Rattle.question.proofs.ask.Tie as tie
 
 abbrev Inv-loop : tie.InvT-loop
-Inv-loop n low whole states levels i later from trail₀ end at₀ trail at = (from ≤ at) × Free from at (passes (condition low whole states levels i) later)
+Inv-loop free within whole levels i later from trail₀ n end at₀ trail at =
+    (from ≤ at) × Free from at (passes (free .w) (region within whole levels i) later)
 
 abbrev μ-loop : tie.MeasureT-loop
-μ-loop n low whole states levels i later from trail₀ end at₀ trail at = end - at
+μ-loop free within whole levels i later from trail₀ n end at₀ trail at = end - at
 
 loop-holds : tie.Need-loop-holds Inv-loop μ-loop
 loop-holds c = (omega arith, λ s g l. absurd (omega arith))
@@ -31,7 +32,7 @@ returns c =
     let o = a .before .before in
     let l = o .before .before in
     rw (c .enum-told2 .given .1)
-    (asked-here _ _ (l .loop .inv .1) (o .open-bits .ensures) (l .loop .inv .0)
+    (asked-here _ _ _ (l .loop .inv .1) (o .open-bits .ensures) (l .loop .inv .0)
     (rw (c .enum-told2 .given .1) at (a .ask-block .ensures)))
 
 add-at : tie.Need-add-at Inv-loop μ-loop
@@ -50,12 +51,12 @@ loop-again c =
     let o = a .before .before in
     let l = o .before .before in
     rw (c .size2 .ensures, block-length (o .open-bits .ensures))
-    (omega (arith, l .loop .inv .0), asked-on _ _ (l .loop .inv .1) _ (rw (c .before .enum-told .given .1) at (a .ask-block .ensures)))
+    (omega (arith, l .loop .inv .0), asked-on _ _ _ (l .loop .inv .1) _ (rw (c .before .enum-told .given .1) at (a .ask-block .ensures)))
 
 returns-2 : tie.Need-returns-2 Inv-loop μ-loop
 returns-2 c =
     let l = c .before in
-    asked-none _ _ (l .loop .inv .1) _ (rw (l .before .size .ensures) at (c .loop-test .left))
+    asked-none _ _ _ (l .loop .inv .1) _ (rw (l .before .size .ensures) at (c .loop-test .left))
 
 pub ask-spec : {M : Type 1} → statement M
 ask-spec =
@@ -63,6 +64,9 @@ ask-spec =
     (tie.spec
     Inv-loop
     μ-loop
+    (λ c. search needs)
+    (λ c. search needs)
+    (λ c. search needs)
     (λ c κs. search needs)
     loop-holds
     open-bits-requires

@@ -7,7 +7,7 @@ use Rattle.question.proofs.bad_in.Statement.{statement}
 use Rattle.question.proofs.bad_in.Tie as tie
 
 returns : tie.Need-returns
-returns c = c .step-in .ensures ∙ sym (bad-step _ _ _ _ _ _ _)
+returns c = c .step-in .ensures ∙ sym (bad-step _ _ _ _ _ _ _ _)
 
 pub bad-in-spec : {M : Type 1} → statement M
 bad-in-spec = tie.close (tie.spec (λ c κs. search needs) returns)

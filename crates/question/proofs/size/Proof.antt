@@ -4,7 +4,6 @@ use mathlib.Core.Path.{_≡_}
 use native.Mathlib.Omega.{arith}
 use borrow.Author.Needs.{needs}
 use Rattle.masks.proofs.OneBit.{shift-one}
-use Rattle.look.specs.Condition.{width}
 use Rattle.question.proofs.size.Statement.{statement}
 use Rattle.question.proofs.size.Tie as tie
 
@@ -12,7 +11,7 @@ returns : tie.Need-returns
 returns c =
     let n = c .before .args .n in
     let e : min n 32 ≡ n = omega arith in
-    rw (shift-one width n (omega arith), e)
+    rw (shift-one 64 n (omega arith), e)
 
 returns-2 : tie.Need-returns-2
 returns-2 c =

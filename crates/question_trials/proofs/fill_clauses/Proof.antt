@@ -8,7 +8,7 @@ abbrev Inv-loop : tie.InvT-loop
 Inv-loop list₀ n kind width seed random₀ j₀ list random j = Unit {0}
 
 abbrev μ-loop : tie.MeasureT-loop
-μ-loop list₀ n kind width seed random₀ j₀ list random j = 121 - j
+μ-loop list₀ n kind width seed random₀ j₀ list random j = 243 - j
 
 pub fill-clauses-spec : {M : Type 1} → statement M
 fill-clauses-spec =

@@ -20,11 +20,11 @@ returns-2 c = stores-promised _ _ _ (cc) (cc)
 -- behind both tests nothing is refused
 accepted : (here : tie.Else2)
     → (let a = here .before .before .before .before .before .before .before .before .before .before .before .before .before .args in
-    refused (systemOf (a .n) (a .start .now) (a .step .now) (a .bad .now)) (stores (a .states .now) (a .levels .now) (a .path .now)) ≡ 0)
+    refused (systemOf (a .n) (a .w) (a .start .now) (a .step .now) (a .bad .now)) (stores (a .states .now) (a .levels .now) (a .path .now)) ≡ 0)
 accepted here = refused-stores _ _ {b = false} (cc) (cc)
 
 searched-requires : tie.Need-searched-requires
-searched-requires c κs = lends _ _ (accepted (c .before .before .before))
+searched-requires c κs = lends _ _ (accepted (c .before .before .before .before .before))
 
 close-requires : tie.Need-close-requires
 close-requires c κs = ends-closing (c .before .before .before .before .before .before .before .before .before .searched .ensures)
@@ -32,7 +32,7 @@ close-requires c κs = ends-closing (c .before .before .before .before .before .
 returns-3 : tie.Need-returns-3
 returns-3 c =
     let run = c .before .before .before .before .before .before .before .before .before .before .before .before .before .before .before .before in
-    let none = accepted (run .before .before .before .before) in
+    let none = accepted (run .before .before .before .before .before .before) in
     let l = run .searched .ensures .lends in
     searched-promised _ _ none (run .searched .ensures)
     (record { states = l .states; levels = l .levels ∙ sym (lends _ _ none .levels); path = run .searched .kept .1 .1 .1 .1 .1 .1 .0 })
@@ -49,6 +49,8 @@ search-spec =
     (λ c. search needs)
     (λ c. search needs)
     returns-2
+    (λ c κs. search needs)
+    (λ c κs. search needs)
     searched-requires
     close-requires
     (λ c. search needs)

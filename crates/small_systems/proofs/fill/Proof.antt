@@ -7,10 +7,10 @@ use Rattle.small_systems.proofs.fill.Statement.{statement}
 use Rattle.small_systems.proofs.fill.Tie as tie
 
 abbrev Inv-loop : tie.InvT-loop
-Inv-loop kind density n later seed list₀ end random₀ count₀ j₀ list random count j = length list ≡ length list₀
+Inv-loop kind density n w later seed list₀ end random₀ count₀ j₀ list random count j = length list ≡ length list₀
 
 abbrev μ-loop : tie.MeasureT-loop
-μ-loop kind density n later seed list₀ end random₀ count₀ j₀ list random count j = end - j
+μ-loop kind density n w later seed list₀ end random₀ count₀ j₀ list random count j = end - j
 
 pub fill-spec : {M : Type 1} → statement M
 fill-spec =

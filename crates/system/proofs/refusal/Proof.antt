@@ -1,5 +1,5 @@
 -- `system::refusal` meets its contract: the three tests are made in their order, and each return knows that the tests before it were false. Past the
--- first of them n is at most 32, which the third asks for. Assumes nothing.
+-- first of them n is at most 32 and w at most 64, which the third asks for. Assumes nothing.
 use mathlib.Core.Path.{sym, _∙_}
 use borrow.Author.Needs.{needs}
 use Rattle.system.specs.System.{refusalOf}
@@ -24,7 +24,8 @@ returns-2 c =
 wrong-bits-requires : tie.Need-wrong-bits-requires
 wrong-bits-requires c κs =
     let past-1 = c .before .before in
-    size-right _ (sym (past-1 .before .wrong-size .ensures) ∙ past-1 .if1 .left) .1
+    let right = size-right _ _ (sym (past-1 .before .wrong-size .ensures) ∙ past-1 .if1 .left) in
+    (right .1, right .2)
 
 returns-3 : tie.Need-returns-3
 unfolding refusalOf

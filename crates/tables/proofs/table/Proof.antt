@@ -7,10 +7,10 @@ use Rattle.tables.proofs.table.Statement.{statement}
 use Rattle.tables.proofs.table.Tie as tie
 
 abbrev Inv-loop : tie.InvT-loop
-Inv-loop n start step bad out₀ end j₀ out j = length out ≡ length out₀
+Inv-loop n w start step bad out₀ end j₀ out j = length out ≡ length out₀
 
 abbrev μ-loop : tie.MeasureT-loop
-μ-loop n start step bad out₀ end j₀ out j = end - j
+μ-loop n w start step bad out₀ end j₀ out j = end - j
 
 pub table-spec : {M : Type 1} → statement M
 table-spec =

@@ -1,4 +1,4 @@
--- `house::enter::enter_clause` meets its contract: the list of the clause's kind has two masks more, if there is room. Assumes nothing.
+-- `house::enter::enter_clause` meets its contract: the list of the clause's kind has four masks more, if there is room. Assumes nothing.
 use borrow.Author.Needs.{needs}
 use Rattle.house.proofs.Entering.{start-put, step-put, bad-put}
 use Rattle.house.proofs.enter.enter_clause.Statement.{statement}

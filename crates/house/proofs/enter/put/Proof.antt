@@ -1,4 +1,4 @@
--- `house::enter::put` meets its contract: where there is room for two masks more, they are written behind the list. Assumes nothing.
+-- `house::enter::put` meets its contract: where there is room for a clause more, it is written behind the list. Assumes nothing.
 use native.Mathlib.Omega.{arith}
 use borrow.Author.Needs.{needs}
 use lib.ListN.{length-set}

@@ -6,31 +6,37 @@ use Prim.Native.Nat.{ℕ, _+_, _-_, _*_, _≤_, _<_}
 use mathlib.Core.Bool.{Bool}
 use mathlib.Core.List.{List}
 use mathlib.Core.Logic.{⊎-elim}
-use mathlib.Core.Path.{_≡_, refl, _∙_}
+use mathlib.Core.Path.{_≡_, refl, sym, ap, _∙_}
 use native.Mathlib.Nat.{le-refl}
 use native.Mathlib.Omega.{arith}
 use borrow.Author.Needs.{needs}
+use borrow.Author.Tests.{eqb-true}
 use borrow.Fn.Kinds.{In}
 use borrow.Fn.PlainCycle.{Measures, is, falls, and}
 use borrow.Rule.Slice.PartMut.{mid-len}
-use lib.Count.{ones}
+use lib.Count.{ones, ones-le}
 use lib.ListN.{length, length-set}
-use Rattle.look.specs.Condition.{width, condition, lent, fulfils}
+use Rattle.masks.specs.Word.{width, wordOf}
+use Rattle.masks.proofs.Words.{full-word, zero-word}
+use Rattle.masks.proofs.and.Reads as and′
+use Rattle.masks.proofs.is_empty.Reads as is-empty
+use Rattle.look.specs.Condition.{region, lent, fulfils}
 use Rattle.look.specs.Look.{setting}
+use Rattle.look.specs.Reason.{Setting, more}
 use Rattle.look.proofs.Values.{Choice}
 use Rattle.look.proofs.forced.Reads as forced
 use Rattle.question.specs.Reason.{LongEnough}
 use Rattle.question.specs.Engine.{Says}
 use Rattle.question.specs.declared.engine.Said.{Said}
 use Rattle.question.proofs.More.{more-sound, more-falls}
-use Rattle.question.proofs.Solving.{more-passes, forced, at-zero, zero-enough, refuted, some-open}
+use Rattle.question.proofs.Solving.{more-passes, forced, at-zero, zero-enough, refuted}
 use Rattle.question.proofs.Along.{Led, led-none, led-few, led-within, put, led-lent, led-next, led-more}
 use Rattle.question.proofs.engine.attempt.Reads as attempt
 use Rattle.question.proofs.engine.settle.Reads as settle
 use Rattle.question.proofs.engine.settle.Kinds.{ps}
 use Rattle.question.proofs.engine.test.Reads as test
 use Rattle.question.proofs.engine.settle_at.Reads as settle-at
-use Rattle.question.proofs.engine.top_open.Reads as top-open
+use Rattle.question.proofs.engine.pick.Reads as pick
 use Rattle.question.proofs.trail.note.Reads as note
 use Rattle.question.proofs.trail.resolve_along.Reads as resolve-along
 use Rattle.question.proofs.engine.+attempt+settle.Lts-attempt as attempt-lts
@@ -39,37 +45,46 @@ use Rattle.question.proofs.engine.+attempt+settle.{statement}
 use Rattle.question.proofs.engine.+attempt+settle.Tie.{close}
 
 -- both functions have the same parameters, `ps`
-abbrev μ-attempt : Measures 5 ps ℕ
-μ-attempt κs a = 2 * (width - ones (a .1 .1 .1 .1 .1 .0 .bits))
+abbrev μ-attempt : Measures 4 ps ℕ
+μ-attempt κs a = 2 * (width - ones (wordOf (a .1 .1 .1 .1 .0 .bits)))
 
-abbrev μ-settle : Measures 5 ps ℕ
+abbrev μ-settle : Measures 4 ps ℕ
 μ-settle κs a = μ-attempt κs a + 1
+
+-- no more entries than 128
+few : width ≤ 128
+unfolding width
+few = omega arith
 
 -- what the loop keeps
 abbrev settle-Inv-loop : settle-lts.InvT-loop
-settle-Inv-loop low whole states levels i at trail₀ r₀ next₀ noted₀ trail r next noted =
-    Led width (fulfils (condition low whole states levels i)) (setting r₀) trail noted (setting r) × (length trail ≡ length trail₀)
+settle-Inv-loop within whole levels i trail₀ r₀ next₀ noted₀ trail r next noted =
+    Led width (fulfils (region within whole levels i)) (setting r₀) trail noted (setting r) × (length trail ≡ length trail₀)
 
 abbrev settle-μ-loop : settle-lts.MeasureT-loop
-settle-μ-loop low whole states levels i at trail₀ r₀ next₀ noted₀ trail r next noted = width - ones (r .bits)
+settle-μ-loop within whole levels i trail₀ r₀ next₀ noted₀ trail r next noted = width - ones (wordOf (r .bits))
 
 module _ (t : ℕ) where
   -- what a function with the measure μ is given at t, and what a call of it asks below t
-  abbrev at : Measures 5 ps ℕ → In 5 ps → In 5 ps
-  at μ pre = and 5 ps (is 5 ps μ t) pre
+  abbrev at : Measures 4 ps ℕ → In 4 ps → In 4 ps
+  at μ pre = and 4 ps (is 4 ps μ t) pre
 
-  abbrev below : Measures 5 ps ℕ → In 5 ps → In 5 ps
-  below μ pre = and 5 ps (falls 5 ps _<_ μ t) pre
+  abbrev below : Measures 4 ps ℕ → In 4 ps → In 4 ps
+  below μ pre = and 4 ps (falls 4 ps _<_ μ t) pre
 
   -- what the calls of each function ask and answer
   abbrev attempt-calls : attempt-lts.Claims
   attempt-calls = (
-    top-open.Asked,
-    top-open.Learnt,
+    pick.Asked,
+    pick.Learnt,
     settle-at.Asked,
     settle-at.Learnt,
     below μ-settle settle.Pre,
     settle.Post,
+    and′.Asked,
+    and′.Learnt,
+    is-empty.Asked,
+    is-empty.Learnt,
   )
 
   abbrev settle-calls : settle-lts.Claims
@@ -90,60 +105,74 @@ module _ (t : ℕ) where
 
   -- ---- `attempt`
   -- where a call of it has picked the bit to try
-  module _ (p : attempt-lts.After-top-open attempt-calls (at μ-attempt attempt.Pre) attempt.Post) where
+  module _ (p : attempt-lts.After-pick attempt-calls (at μ-attempt attempt.Pre) attempt.Post) where
     abbrev begun : attempt-lts.Start attempt-calls (at μ-attempt attempt.Pre) attempt.Post
     begun = p .before .before .before .before .before .before
 
-    abbrev zero : Choice width (setting (begun .args .s)) (p .top-open .result) 0
-    zero = at-zero (begun .pre .1 .begins .valid) (p .top-open .ensures .free)
+    abbrev zero : Choice width (setting (begun .args .s)) (wordOf (p .pick .result)) 0
+    zero = at-zero (begun .pre .1 .begins .valid) (p .pick .ensures)
 
-  attempt-top-open-requires : attempt-lts.Need-top-open-requires attempt-calls (at μ-attempt attempt.Pre) attempt.Post
-  attempt-top-open-requires c κs =
-      let s = c .before .before .before .before .before in
-      some-open width (setting (s .args .s)) (s .pre .1 .some)
+    -- what is settled then
+    at-none : more (setting (begun .args .s)) (wordOf (p .pick .result)) (wordOf (record { pair = 0; wires = 0 }))
+        ≡ more (setting (begun .args .s)) (wordOf (p .pick .result)) 0
+    at-none = ap (more (setting (begun .args .s)) (wordOf (p .pick .result))) zero-word
+
+  -- the trail has a number at its end
+  attempt-sub-pick : attempt-lts.Need-sub-pick attempt-calls (at μ-attempt attempt.Pre) attempt.Post
+  attempt-sub-pick c = omega (arith, c .before .before .before .before .pre .1 .begins .long)
+
+  attempt-slice-read-pick : attempt-lts.Need-slice-read-pick attempt-calls (at μ-attempt attempt.Pre) attempt.Post
+  attempt-slice-read-pick c = omega (arith, c .before .before .before .before .before .pre .1 .begins .long)
+
+  attempt-pick-requires : attempt-lts.Need-pick-requires attempt-calls (at μ-attempt attempt.Pre) attempt.Post
+  attempt-pick-requires c κs = c .before .before .before .before .before .pre .1 .some
 
   attempt-settle-requires : attempt-lts.Need-settle-requires attempt-calls (at μ-attempt attempt.Pre) attempt.Post
   attempt-settle-requires c κs =
       let picked = c .before .before in
       let b = begun picked .pre .1 .begins in
       let f = more-falls (zero picked) (b .valid) in
-      rw (c .before .settle-at .ensures) (
-        omega (arith, f .one, f .most, begun picked .pre .0),
-        record { valid = more-sound (zero picked) (b .valid); long = omega (arith, f .one, b .long) },
+      let e = c .before .settle-at .ensures ∙ at-none picked in
+      let n = ap (λ (t : Setting). ones (t .bits)) e in (
+        omega (arith, n, f .one, f .most, begun picked .pre .0),
+        record { valid = rw e (more-sound (zero picked) (b .valid)); long = omega (arith, n, f .one, b .long) },
       )
 
   attempt-returns : attempt-lts.Need-returns attempt-calls (at μ-attempt attempt.Pre) attempt.Post
   attempt-returns c =
-      let told = c .before .before in
+      let met = c .before .before in
+      let told = met .before .before in
       let settled = told .before .before .before .before in
       let picked = settled .before .before .before in
-      zero-enough (begun picked .pre .1 .begins .valid) (picked .top-open .ensures .free) (fulfils _) _
-      (rw (settled .before .before .settle-at .ensures, told .f2 .given .1) at (settled .settle .ensures)) (c .if1 .taken)
+      zero-enough (begun picked .pre .1 .begins .valid) (picked .pick .ensures) (fulfils _) _
+      (rw (told .f2 .given .1, settled .before .before .settle-at .ensures ∙ at-none picked) at (settled .settle .ensures))
+      (sym (met .and .ensures) ∙ eqb-true _ _ (sym (c .before .is-empty .ensures) ∙ c .if1 .taken))
 
   attempt-returns-2 : attempt-lts.Need-returns-2 attempt-calls (at μ-attempt attempt.Pre) attempt.Post
   attempt-returns-2 c =
       let told = c .before in
       let settled = told .before .before .before .before in
-      more-passes (zero (settled .before .before .before)) (fulfils _) _
-      (rw (settled .before .before .settle-at .ensures, told .f .given .1) at (settled .settle .ensures))
+      let picked = settled .before .before .before in
+      more-passes (zero picked) (fulfils _) _
+      (rw (told .f .given .1, settled .before .before .settle-at .ensures ∙ at-none picked) at (settled .settle .ensures))
 
   attempt-returns-3 : attempt-lts.Need-returns-3 attempt-calls (at μ-attempt attempt.Pre) attempt.Post
   attempt-returns-3 c =
-      let told = c .before .before in
+      let told = c .before .before .before .before in
       let settled = told .before .before .before .before in
       let picked = settled .before .before .before in
-      refuted (begun picked .pre .1 .begins .valid) (picked .top-open .ensures .free)
-      (rw (settled .before .before .settle-at .ensures, told .f2 .given .1) at (settled .settle .ensures))
+      refuted (begun picked .pre .1 .begins .valid) (picked .pick .ensures)
+      (rw (told .f2 .given .1, settled .before .before .settle-at .ensures ∙ at-none picked) at (settled .settle .ensures))
 
   -- ---- `settle`
   -- where a turn of its loop begins
   module _ (p : settle-lts.At-loop settle-calls (at μ-settle settle.Pre) settle.Post settle-Inv-loop settle-μ-loop) where
     abbrev entered : settle-lts.Start settle-calls (at μ-settle settle.Pre) settle.Post settle-Inv-loop settle-μ-loop
-    entered = p .before .before .before .before .before .before
+    entered = p .before .before .before .before .before
 
     -- what is asked of a pair
     abbrev P : ℕ → Bool
-    P = fulfils (lent (entered .args .low) (entered .args .whole) (entered .args .states) (entered .args .levels) (entered .args .i))
+    P = fulfils (lent (entered .args .within) (entered .args .whole) (entered .args .levels) (entered .args .i))
 
     -- a trail that leads as far, of the same length
     abbrev Leads : List ℕ → Type 0
@@ -155,7 +184,7 @@ module _ (t : ℕ) where
     long : {trail : List ℕ} → Leads trail → LongEnough width (setting (entered .args .s)) trail
     long l = omega (arith, entered .pre .1 .long, l .1)
 
-    within : {trail : List ℕ} → Leads trail → 2 * p .loop .noted ≤ length trail
+    within : {trail : List ℕ} → Leads trail → 4 * p .loop .noted ≤ length trail
     within l = led-within (l .0) (long l)
 
     -- the trail when the part that `attempt` was lent is back
@@ -181,48 +210,50 @@ module _ (t : ℕ) where
       (λ v. ⊎-elim
       (λ w. comes-as turn (w .3) (w .4) record { leads = L; says = rw (w .1 .given .1) at (p .before .forced .ensures) })
       (λ u. ⊎-elim
-      (λ w. comes-as turn (w .5) (w .6) record { leads = L; says = w .4 .ensures })
-      (λ w. comes-as turn (w .8) (w .9) record {
-        leads = back turn (w .5 .last .1 .1 .1 .1 .1 .1 .1 .0) (w .6 .given .1);
-        says = w .5 .ensures;
+      (λ w. comes-as turn (w .6) (w .7) record { leads = L; says = w .5 .ensures })
+      (λ w. comes-as turn (w .9) (w .10) record {
+        leads = back turn (w .6 .last .1 .1 .1 .1 .1 .0) (w .7 .given .1);
+        says = w .6 .ensures;
       })
       u)
       v)
       (p .match .came)
 
   settle-loop-holds : settle-lts.Need-loop-holds settle-calls (at μ-settle settle.Pre) settle.Post settle-Inv-loop settle-μ-loop
-  settle-loop-holds c = (led-none (c .before .before .before .before .before .pre .1 .valid), refl)
+  settle-loop-holds c = (led-none (c .before .before .before .before .pre .1 .valid), refl)
 
   settle-test-requires : settle-lts.Need-test-requires settle-calls (at μ-settle settle.Pre) settle.Post settle-Inv-loop settle-μ-loop
-  settle-test-requires c κs = record { valid = c .before .before .before .before .before .loop .inv .0 .sound; all = c .if1 .taken }
+  settle-test-requires c κs =
+      let turn = c .before .before .before .before .before .before in
+      record { valid = turn .loop .inv .0 .sound; all = full-word (turn .loop .r .bits) (c .if1 .taken) }
 
   settle-mul-attempt : settle-lts.Need-mul-attempt settle-calls (at μ-settle settle.Pre) settle.Post settle-Inv-loop settle-μ-loop
-  settle-mul-attempt c = record { fits = omega (arith, led-few (c .before .before .before .before .before .loop .inv .0)) }
+  settle-mul-attempt c = record { fits = omega (arith, few, led-few (c .before .before .before .before .before .before .loop .inv .0)) }
 
   settle-mul-attempt-2 : settle-lts.Need-mul-attempt-2 settle-calls (at μ-settle settle.Pre) settle.Post settle-Inv-loop settle-μ-loop
-  settle-mul-attempt-2 c = record { fits = omega (arith, led-few (c .before .before .before .before .before .loop .inv .0)) }
+  settle-mul-attempt-2 c = record { fits = omega (arith, few, led-few (c .before .before .before .before .before .before .loop .inv .0)) }
 
   settle-sub-attempt : settle-lts.Need-sub-attempt settle-calls (at μ-settle settle.Pre) settle.Post settle-Inv-loop settle-μ-loop
   settle-sub-attempt c =
-      let turn = c .before .before .before .before .before in
+      let turn = c .before .before .before .before .before .before in
       omega (arith, within turn (turn .loop .inv))
 
   settle-part-attempt-start : settle-lts.Need-part-attempt-start settle-calls (at μ-settle settle.Pre) settle.Post settle-Inv-loop settle-μ-loop
   settle-part-attempt-start c =
-      let turn = c .before .before .before .before .before in
+      let turn = c .before .before .before .before .before .before in
       omega (arith, within turn (turn .loop .inv))
 
   settle-part-attempt-end : settle-lts.Need-part-attempt-end settle-calls (at μ-settle settle.Pre) settle.Post settle-Inv-loop settle-μ-loop
-  settle-part-attempt-end c = le-refl (length (c .before .before .before .before .before .loop .trail))
+  settle-part-attempt-end c = le-refl (length (c .before .before .before .before .before .before .loop .trail))
 
   settle-attempt-requires : settle-lts.Need-attempt-requires settle-calls (at μ-settle settle.Pre) settle.Post settle-Inv-loop settle-μ-loop
   settle-attempt-requires c κs =
-      let turn = c .before .before .before .before .before .before in
+      let turn = c .before .before .before .before .before .before .before in
       let L = turn .loop .inv .0 in (
         omega (arith, L .count, entered turn .pre .0),
         record {
-          begins = record { valid = L .sound; long = rw (mid-len _ _ _ (le-refl _)) (omega (arith, L .count, long turn (turn .loop .inv))) };
-          some = omega (arith, L .sound .fits, c .before .if1 .left);
+          begins = record { valid = L .sound; long = rw (mid-len _ _ _ (le-refl _)) (omega (arith, L .count, long turn (turn .loop .inv), ones-le width _ (L .sound .fits))) };
+          some = c .before .if1 .left;
         },
       )
 
@@ -254,12 +285,12 @@ module _ (t : ℕ) where
       let told = c .before .before in
       let p = told .before .before in
       let h = came p in
-      led-next (h .leads .0) (rw (told .said3 .given .1) at (h .says)) (long (p .before .before) (h .leads))
+      led-next (h .leads .0) _ _ (rw (told .said3 .given .1) at (h .says)) (long (p .before .before) (h .leads))
 
   settle-add-noted : settle-lts.Need-add-noted settle-calls (at μ-settle settle.Pre) settle.Post settle-Inv-loop settle-μ-loop
   settle-add-noted c =
       let p = c .before .before .before .before .before .before .before in
-      record { fits = omega (arith, led-few (p .before .before .loop .inv .0)) }
+      record { fits = omega (arith, few, led-few (p .before .before .loop .inv .0)) }
 
   settle-loop-less : settle-lts.Need-loop-less settle-calls (at μ-settle settle.Pre) settle.Post settle-Inv-loop settle-μ-loop
   settle-loop-less c =
@@ -267,7 +298,7 @@ module _ (t : ℕ) where
       let h = came (told .before .before) in
       let ok = h .leads .0 .sound in
       let f = more-falls (forced ok (rw (told .said3 .given .1) at (h .says))) ok in
-      rw (c .settle-at .ensures) (omega (arith, f .one, f .most))
+      omega (arith, ap (λ (t : Setting). ones (t .bits)) (c .settle-at .ensures), f .one, f .most)
 
   settle-loop-again : settle-lts.Need-loop-again settle-calls (at μ-settle settle.Pre) settle.Post settle-Inv-loop settle-μ-loop
   settle-loop-again c =
@@ -276,7 +307,7 @@ module _ (t : ℕ) where
       let h = came p in
       let F = rw (told .said3 .given .1) at (h .says) in
       rw (c .settle-at .ensures, c .before .before .before .note .ensures)
-      (led-more (h .leads .0) F (led-next (h .leads .0) F (long (p .before .before) (h .leads))), simp length-set (h .leads .1))
+      (led-more (h .leads .0) _ _ F (led-next (h .leads .0) _ _ F (long (p .before .before) (h .leads))), simp length-set (h .leads .1))
 
 pub +attempt+settle-spec : {M : Type 1} → statement M
 +attempt+settle-spec =
@@ -284,11 +315,16 @@ pub +attempt+settle-spec : {M : Type 1} → statement M
     μ-attempt
     μ-settle
     (λ t. attempt-lts.spec (attempt-calls t) (at t μ-attempt attempt.Pre) attempt.Post
-    (attempt-top-open-requires t)
+    (attempt-sub-pick t)
+    (λ c. search needs)
+    (attempt-slice-read-pick t)
+    (attempt-pick-requires t)
     (λ c κs. search needs)
     (attempt-settle-requires t)
     (λ c. search needs)
     (λ c. search needs)
+    (λ c κs. search needs)
+    (λ c κs. search needs)
     (λ c. search needs)
     (attempt-returns t)
     (λ c. search needs)

@@ -1,23 +1,52 @@
--- `question::engine::test` meets its contract: with no bit open the values are a pair, and it passes or nothing does. Assumes nothing.
-use mathlib.Core.Path.{sym, _∙_}
+-- `question::engine::test` meets its contract: with no bit open the values are a word, and it passes or nothing does; outside R(i) it fails for the state's
+-- bits alone. Assumes nothing.
+use Prim.Native.Nat.{_-_, _^_}
+use mathlib.Core.Path.{refl, sym, ap, _∙_}
+use native.Mathlib.Omega.{arith}
 use borrow.Author.Needs.{needs}
-use Rattle.look.specs.Condition.{width, fulfils}
+use Rattle.masks.specs.Word.{width, wordOf}
+use Rattle.masks.proofs.Words.{half-width, no-wire, low-half}
+use Rattle.look.specs.Condition.{wordTrue, region, outside, fulfils}
 use Rattle.look.specs.Look.{setting}
+use Rattle.look.proofs.Parts.{region-whole}
 use Rattle.question.proofs.Pairs.{fulfils-same}
-use Rattle.question.proofs.Solving.{full-pair, full-nothing}
+use Rattle.question.proofs.Fulfilled.{word-true, fulfils-inside, outside-fails}
+use Rattle.question.proofs.Solving.{full-passes, full-nothing, state-among}
 use Rattle.question.proofs.engine.test.Statement.{statement}
 use Rattle.question.proofs.engine.test.Tie as tie
 
 returns : tie.Need-returns
 returns c =
-    let s = c .before .before .before .before .before .before in
-    full-pair width (fulfils _) (setting (s .args .s)) (s .pre .valid) (sym (c .before .fulfilled .ensures) ∙ c .if1 .taken)
+    let start = c .before .before .before .before .before .before .before in
+    let a = start .args in
+    let asked = region (a .within .now) (a .whole .now) (a .levels .now) (a .i) in
+    rw (no-wire (record { pair = 2 ^ 32 - 1; wires = 0 }) (omega arith) refl)
+    (outside-fails asked (setting (a .s)) (state-among width (fulfils asked) (setting (a .s)) (start .pre .valid) 32 half-width (start .pre .all))
+    (ap (outside asked) (low-half (a .s .values)) ∙ sym (c .before .is-outside .ensures (a .whole .now)) ∙ c .if1 .taken))
 
 returns-2 : tie.Need-returns-2
 returns-2 c =
-    let s = c .before .before .before .before .before .before in
-    full-nothing width (fulfils _) (setting (s .args .s)) (s .pre .valid) (fulfils-same _) (s .pre .all)
-    (sym (c .before .fulfilled .ensures) ∙ c .if1 .left)
+    let inside = c .before .before in
+    let start = inside .before .before .before .before .before .before .before in
+    let a = start .args in
+    let asked = region (a .within .now) (a .whole .now) (a .levels .now) (a .i) in
+    full-passes width (fulfils asked) (setting (a .s)) (start .pre .valid)
+    (fulfils-inside asked (wordOf (a .s .values))
+    (ap (outside asked) (low-half (a .s .values)) ∙ sym (inside .before .is-outside .ensures (a .whole .now)) ∙ inside .if1 .left)
+    ∙ ap (λ l. wordTrue l (wordOf (a .s .values))) (region-whole (a .within .now) (a .whole .now) (a .levels .now) (a .i))
+    ∙ word-true (a .whole .now) (a .s .values) ∙ sym (c .before .list-true .ensures) ∙ c .if2 .taken)
+
+returns-3 : tie.Need-returns-3
+returns-3 c =
+    let inside = c .before .before in
+    let start = inside .before .before .before .before .before .before .before in
+    let a = start .args in
+    let asked = region (a .within .now) (a .whole .now) (a .levels .now) (a .i) in
+    full-nothing width (fulfils asked) (setting (a .s)) (start .pre .valid) (fulfils-same asked) (start .pre .all)
+    (fulfils-inside asked (wordOf (a .s .values))
+    (ap (outside asked) (low-half (a .s .values)) ∙ sym (inside .before .is-outside .ensures (a .whole .now)) ∙ inside .if1 .left)
+    ∙ ap (λ l. wordTrue l (wordOf (a .s .values))) (region-whole (a .within .now) (a .whole .now) (a .levels .now) (a .i))
+    ∙ word-true (a .whole .now) (a .s .values) ∙ sym (c .before .list-true .ensures) ∙ c .if2 .left)
 
 pub test-spec : {M : Type 1} → statement M
-test-spec = tie.close (tie.spec (λ c κs. search needs) returns returns-2)
+test-spec = tie.close (tie.spec (λ c κs. search needs) returns (λ c κs. search needs) returns-2 returns-3)

@@ -1,4 +1,4 @@
--- `question::trail::note` meets its contract: it writes the two numbers that the contract names. Assumes nothing.
+-- `question::trail::note` meets its contract: it writes the four numbers that the contract names. Assumes nothing.
 use native.Mathlib.Omega.{arith}
 use borrow.Author.Needs.{needs}
 use lib.ListN.{length-set}
@@ -7,6 +7,12 @@ use Rattle.question.proofs.trail.note.Tie as tie
 
 slice-write-trail-2 : tie.Need-slice-write-trail-2
 slice-write-trail-2 c = simp length-set (omega arith)
+
+slice-write-trail-3 : tie.Need-slice-write-trail-3
+slice-write-trail-3 c = simp length-set (omega arith)
+
+slice-write-trail-4 : tie.Need-slice-write-trail-4
+slice-write-trail-4 c = simp length-set (omega arith)
 
 pub note-spec : {M : Type 1} → statement M
 note-spec =
@@ -19,5 +25,13 @@ note-spec =
     (λ c. search needs)
     (λ c. search needs)
     slice-write-trail-2
+    (λ c. search needs)
+    (λ c. search needs)
+    (λ c. search needs)
+    slice-write-trail-3
+    (λ c. search needs)
+    (λ c. search needs)
+    (λ c. search needs)
+    slice-write-trail-4
     (λ c. search needs)
     (λ c. search needs))

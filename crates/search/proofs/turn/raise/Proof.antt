@@ -37,7 +37,7 @@ returns c =
     let s = m .before .before .before .before .before .before .before .before in
     let a = s .args in
     let o = m .before .step-state in
-    λ bad path. let y = systemOf (a .n) (a .start .now) (a .step .now) bad in
+    λ bad path. let y = systemOf (a .f .n) (a .f .w) (a .start .now) (a .step .now) bad in
     ⊎-elim
     (λ w. moves-to (rw (w .2) (raise-not y _ _ _ _ _ _ (s .pre) _ _ (rw (w .1 .given .1) at (o .ensures))))
     (c .tested .ensures _ path (rw (w .2) (s .pre .asks .tidy))))

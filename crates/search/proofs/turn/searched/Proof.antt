@@ -34,7 +34,7 @@ returns-3 c =
     let told = turns .before .before .before .before in
     let q = told .before .before in
     let a = entry q .args in
-    let y = systemOf (a .n) (a .start .now) (a .step .now) (a .bad .now) in
+    let y = systemOf (a .f .n) (a .f .w) (a .start .now) (a .step .now) (a .bad .now) in
     rw (first-searches y (entry q .pre) (leave q) _ (rw (told .enum-told .given .1) at (q .start-state .ensures))) at (turns .all-turns .ensures)
 
 pub searched-spec : {M : Type 1} → statement M
