@@ -1,12 +1,14 @@
-"""Run by gdb: follows scan from its main to its end, and prints the bytes of stack that it used, those that stood above its deepest question, those of
-that question, how many calls of `settle` stood below each other at a time, and how many bytes apart.
+"""Run by gdb on a program that has been started: follows it from its main to its end, and prints the bytes of stack that it used, those that stood above its
+deepest question, those of that question, how many calls of `settle` stood below each other at a time, and how many bytes apart.
 
-Used is what was written. Before the first question the stack below it is filled with a byte; what was not mapped then is zero until it is written.
+Used is what was written. Before the first question the stack below it is filled with a byte. What was not mapped then is zero until it is written, so that
+zeros at the very end are not seen; an emulator has all of it mapped.
 """
 import gdb
 
 FILL = 0xA5
 BELOW = 1 << 18
+PAGE = 1 << 12
 
 
 def number(expression):
@@ -42,10 +44,16 @@ class Return(gdb.Breakpoint):
         return False
 
 
-def mapped():
-    """Where the stack's memory begins."""
-    with open("/proc/%d/maps" % gdb.selected_inferior().pid) as maps:
-        return next(int(area.split("-")[0], 16) for area in maps if area.rstrip().endswith("[stack]"))
+def lowest(start):
+    """The lowest page below that is mapped with all those between, but none further than is looked at."""
+    page = start // PAGE * PAGE
+    try:
+        while start - page < BELOW:
+            gdb.selected_inferior().read_memory(page - PAGE, 1)
+            page -= PAGE
+    except gdb.MemoryError:
+        pass
+    return page
 
 
 def go():
@@ -54,7 +62,6 @@ def go():
 
 def main():
     gdb.execute("set confirm off")
-    gdb.execute("starti", to_string=True)
     gdb.Breakpoint("*%d" % number("&main"), temporary=True, internal=True)
     go()
     top = number("$rsp") + 8
@@ -62,14 +69,14 @@ def main():
     first = gdb.Breakpoint("*%d" % number("&'question::ask'"), internal=True)
     go()
     start = number("$rsp")
-    filled = max(mapped(), start - BELOW)
+    filled = lowest(start)
     memory = gdb.selected_inferior()
     memory.write_memory(filled, bytes([FILL]) * (start - filled))
     first.delete()
     questions, settles = Calls("question::ask"), Calls("question::engine::settle")
     questions.stop()
     go()
-    low = max(mapped(), start - BELOW)
+    low = lowest(start)
     below = bytes(memory.read_memory(low, start - low))
     used = low + next(k for k, byte in enumerate(below) if byte != (FILL if filled <= low + k else 0))
     question = questions.deepest

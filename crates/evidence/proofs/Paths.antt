@@ -120,11 +120,11 @@ module _ (step : ℕ → ℕ → Bool) (bad : ℕ → Bool) (l : List ℕ) (i : 
   leads-ends h k = rw (drop-cons l i 0 h, drop-of-length-le l {i = suc i} (omega arith))
 
 -- as code asks of a path whose states are below 2^32: their low halves are the states, and a pair with a later half of 0 is the state itself
-module _ {v w : ℕ} (e : v ≡ w) (list l : List ℕ) (small : each (λ x. ltb x (2 ^ 32)) l ≡ true) (i : ℕ) where
+module _ (w : ℕ) (list l : List ℕ) (small : each (λ x. ltb x (2 ^ 32)) l ≡ true) (i : ℕ) where
   pub step-asked : i + 1 < length l
-      → someTrue v list (pair (getD l i 0 % 2 ^ 32) (getD l (i + 1) 0 % 2 ^ 32)) ≡ someTrue w list (pair (getD l i 0) (getD l (i + 1) 0))
-  step-asked h = rw (e, mod-eq-of-lt (below-at (2 ^ 32) l i (omega arith) small), mod-eq-of-lt (below-at (2 ^ 32) l (i + 1) h small))
+      → someTrue w list (pair (getD l i 0 % 2 ^ 32) (getD l (i + 1) 0 % 2 ^ 32)) ≡ someTrue w list (pair (getD l i 0) (getD l (i + 1) 0))
+  step-asked h = rw (mod-eq-of-lt (below-at (2 ^ 32) l i (omega arith) small), mod-eq-of-lt (below-at (2 ^ 32) l (i + 1) h small))
 
-  pub bad-asked : i < length l → someTrue v list (pair (getD l i 0 % 2 ^ 32) (0 % 2 ^ 32)) ≡ someTrue w list (getD l i 0)
+  pub bad-asked : i < length l → someTrue w list (pair (getD l i 0 % 2 ^ 32) (0 % 2 ^ 32)) ≡ someTrue w list (getD l i 0)
   unfolding pair
-  bad-asked h = rw e (ap (someTrue w list) (omega (arith, mod-eq-of-lt (below-at (2 ^ 32) l i h small))))
+  bad-asked h = ap (someTrue w list) (omega (arith, mod-eq-of-lt (below-at (2 ^ 32) l i h small)))

@@ -1,5 +1,6 @@
 // The evidence check: whether excluded states, or a path, are right. It trusts nothing that a search has said.
 use masks::Mask;
+use order::TABLE;
 use question::Free;
 ghost use mathlib.Core.Bool.{true, not};
 ghost use mathlib.Core.Path.{_≡_};
@@ -69,44 +70,39 @@ fn start_free(start: &[u64], states: &[u64]) -> bool
     true
 }
 
-// What the questions of a list leave free.
-fn free(n: u32, w: u32, list: &[u64]) -> Free
-    ensures { λ r. ⌜ (r .n ≡ n) × (r .w ≡ w) ⌝ }
-{
-    Free {
-        n,
-        w,
-        first: order::first(list, w),
-    }
-}
-
 // The least bad state that is not listed. A state with no level beside it is excluded from every R(i) above R(0).
-fn bad_outside(free: Free, bad: &[u64], states: &[u64]) -> question::Answer
+fn bad_outside(free: Free, table: &[u64; TABLE], bad: &[u64], states: &[u64]) -> question::Answer
     requires { ⌜ free .n ≤ 32 ⌝ }
     ensures { λ r. ⌜ answered r ≡ outside (2 ^ (free .n)) (now (states .entry)) (someTrue (free .w) (now (bad .entry))) ⌝ }
 {
     let levels = [0u32; 1];
-    question::bad_in(free, &bad[..0], bad, states, &levels[..0], 1, 0)
+    question::bad_in(free, table, &bad[..0], bad, states, &levels[..0], 1, 0)
 }
 
 // The least state that is not listed and steps to t.
-fn step_outside(free: Free, step: &[u64], states: &[u64], t: u64) -> question::Answer
+fn step_outside(
+    free: Free,
+    table: &[u64; TABLE],
+    step: &[u64],
+    states: &[u64],
+    t: u64,
+) -> question::Answer
     requires { ⌜ free .n ≤ 32 ⌝ }
     ensures { λ r. ⌜ answered r ≡ outside (2 ^ (free .n)) (now (states .entry)) (λ s. someTrue (free .w) (now (step .entry)) (pair s t)) ⌝ }
 {
     let levels = [0u32; 1];
-    question::step_in(free, &step[..0], step, states, &levels[..0], 1, t, 0)
+    question::step_in(free, table, &step[..0], step, states, &levels[..0], 1, t, 0)
 }
 
 // Whether no state outside the list steps into it: a question for each listed state, until one has an answer. One question was asked before.
-fn closed(free: Free, step: &[u64], states: &[u64]) -> Checked
+fn closed(free: Free, table: &[u64; TABLE], step: &[u64], states: &[u64]) -> Checked
     requires { ⌜ free .n ≤ 32 ⌝ }
     ensures { λ r. ⌜ r ≡ closedFrom (2 ^ (free .n)) (λ s t. someTrue (free .w) (now (step .entry)) (pair s t)) (now (states .entry)) (now (states .entry)) 1 ⌝ }
 {
     let mut asked = 1;
     let mut j = 0;
     while j < states.len() {
-        let answer = step_outside(free, step, states, states[j]);
+        let answer = step_outside(free, table, step, states, states[j]);
         asked += 1;
         let question::Answer::Nothing = answer else {
             return Checked::No(asked);
@@ -134,11 +130,14 @@ pub fn check_excluded(
     if !start_free(start, states) {
         return Checked::No(0);
     }
-    let answer = bad_outside(free(n, w, bad), bad, states);
-    match answer {
-        question::Answer::State(_) => Checked::No(1),
-        question::Answer::Nothing => closed(free(n, w, step), step, states),
-    }
+    let bad_table = order::table(bad, w);
+    let free = Free { n, w };
+    let answer = bad_outside(free, &bad_table, bad, states);
+    let question::Answer::Nothing = answer else {
+        return Checked::No(1);
+    };
+    let step_table = order::table(step, w);
+    closed(free, &step_table, step, states)
 }
 
 // Whether each state steps to the next, and the last is bad, each by some setting of the wires. The states are given, so no question is asked.
@@ -146,15 +145,17 @@ fn leads_on(n: u32, w: u32, step: &[u64], bad: &[u64], path: &[u64]) -> bool
     requires { ⌜ (0 < length (now path)) × (each (λ x. ltb x (2 ^ 32)) (now path) ≡ true) ⌝ }
     ensures { λ r. ⌜ r ≡ leadsOn (λ s t. someTrue w (now (step .entry)) (pair s t)) (someTrue w (now (bad .entry))) (now (path .entry)) ⌝ }
 {
-    let free_step = free(n, w, step);
+    let step_table = order::table(step, w);
+    let bad_table = order::table(bad, w);
+    let free = Free { n, w };
     let mut j = 0;
     while j + 1 < path.len() {
-        if !question::some_true(free_step, step, path[j], path[j + 1]) {
+        if !question::some_true(free, &step_table, step, path[j], path[j + 1]) {
             return false;
         }
         j += 1;
     }
-    question::some_true(free(n, w, bad), bad, path[j], 0)
+    question::some_true(free, &bad_table, bad, path[j], 0)
 }
 
 // Path: yes exactly if it is not empty, begins with a start state, each state steps to the next, and the last is bad. Its length is not judged.

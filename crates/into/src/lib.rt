@@ -1,4 +1,5 @@
 // Every state that steps into a given one, written into a lent store in rising order: a question for the next one, until there is none.
+use order::TABLE;
 use question::Free;
 ghost use mathlib.Core.Path.{_≡_};
 ghost use mathlib.Core.Bool.{_&&_};
@@ -31,13 +32,14 @@ fn refusal(n: u32, w: u32, start: &[u64], step: &[u64], bad: &[u64], state: u64)
 }
 
 // The least state not below `from` that steps to the given one: R(1) with nothing stored is every state.
-fn next(free: Free, step: &[u64], state: u64, from: u64) -> question::Answer
+fn next(free: Free, table: &[u64; TABLE], step: &[u64], state: u64, from: u64) -> question::Answer
     requires { ⌜ free .n ≤ 32 ⌝ }
     ensures { λ r. ⌜ answered r ≡ least (2 ^ (free .n)) (λ s. notBelow from s && someTrue (free .w) (now (step .entry)) (pair s state)) ⌝ }
 {
     let levels = [0u32; 1];
     question::step_in(
         free,
+        table,
         &step[..0],
         step,
         &step[..0],
@@ -49,14 +51,14 @@ fn next(free: Free, step: &[u64], state: u64, from: u64) -> question::Answer
 }
 
 // Writes state after state. With one more than the store holds, it is all zero again.
-fn fill(free: Free, step: &[u64], state: u64, store: &mut [u64]) -> Listing
+fn fill(free: Free, table: &[u64; TABLE], step: &[u64], state: u64, store: &mut [u64]) -> Listing
     requires { ⌜ free .n ≤ 32 ⌝ }
     ensures { λ r. ⌜ Filled (2 ^ (free .n)) (λ s. someTrue (free .w) (now (step .entry)) (pair s state)) (now (store .entry)) r (now (store .exit)) ⌝ }
 {
     let mut count = 0;
     let mut from = 0;
     loop {
-        let answer = next(free, step, state, from);
+        let answer = next(free, table, step, state, from);
         let question::Answer::State(s) = answer else {
             stores::clear_behind(store, count);
             return Listing {
@@ -99,10 +101,6 @@ pub fn list(
             questions: 0,
         };
     }
-    let free = Free {
-        n,
-        w,
-        first: order::first(step, w),
-    };
-    fill(free, step, state, store)
+    let table = order::table(step, w);
+    fill(Free { n, w }, &table, step, state, store)
 }

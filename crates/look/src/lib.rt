@@ -4,9 +4,9 @@ use masks::Mask;
 use system::Clause;
 ghost use mathlib.Core.List.{List};
 ghost use mathlib.Core.Path.{_≡_};
-ghost use Prim.Native.Nat.{ℕ, _%_, _^_};
+ghost use Prim.Native.Nat.{ℕ, _/_, _%_, _^_, _≤_};
 ghost use lib.Dec.{leb};
-ghost use lib.ListN.{getD};
+ghost use lib.ListN.{length, getD};
 ghost use Rattle.masks.specs.Word.{wordOf};
 ghost use Rattle.look.specs.Excluded.{excluded};
 ghost use Rattle.look.specs.Condition.{stateOf, wordTrue, allowed, region, lent, outside, fulfils};
@@ -19,7 +19,7 @@ pub struct Settled {
 }
 
 // What a look at clauses or excluded states says: nothing is forced; or one has failed, for these settled bits; or its one open bit is forced to
-// `value`, since the other value fails for `reason`, and the look goes on at `next`.
+// `value`, since the other value fails for `reason`, and these blocks of clauses wait still.
 pub enum Look {
     Rest,
     Failed(Mask),
@@ -27,7 +27,7 @@ pub enum Look {
         reason: Mask,
         bit: Mask,
         value: Mask,
-        next: usize,
+        waiting: u64,
     },
 }
 
@@ -41,15 +41,15 @@ pub const STATE: u64 = 0xFFFF_FFFF;
 pub const ALL: u64 = 0xFFFF_FFFF_FFFF_FFFF;
 
 // One clause against the settled bits: true, or failed, or with one open bit, or none of these yet.
-fn clause(c: Clause, s: Settled, next: usize) -> Look
+fn clause(c: Clause, s: Settled, waiting: u64) -> Look
     ensures { λ r. ⌜ Scanned (clauseOf c) s r ⌝ }
 {
     let Clause { ones, zeros } = c;
     let Settled { bits, values } = s;
-    if !masks::is_empty(masks::and(ones, values)) {
+    if !masks::same(masks::and(zeros, values), masks::and(zeros, bits)) {
         return Look::Rest;
     }
-    if !masks::same(masks::and(zeros, values), masks::and(zeros, bits)) {
+    if !masks::is_empty(masks::and(ones, values)) {
         return Look::Rest;
     }
     let want_1 = masks::without(ones, bits);
@@ -69,18 +69,18 @@ fn clause(c: Clause, s: Settled, next: usize) -> Look
         reason,
         bit: open,
         value: want_1,
-        next,
+        waiting,
     }
 }
 
-// The clauses of a list, once round from the clause `at` on.
-fn scan(list: &[u64], at: usize, s: Settled) -> Look
+// The clauses of a list from `from` up to below `end`. Where one says something, these blocks wait still: `waiting`, with clauses left behind it, or
+// `others`.
+fn scan_part(list: &[u64], from: usize, end: usize, s: Settled, waiting: u64, others: u64) -> Look
+    requires { ⌜ end ≤ length (now list) / 4 ⌝ }
     ensures { λ r. ⌜ Scanned (wordTrue (now (list .entry))) s r ⌝ }
 {
-    let count = list.len() / 4;
-    let mut j = if at < count { at } else { 0 };
-    let mut left = count;
-    while 0 < left {
+    let mut j = from;
+    while j < end {
         let c = Clause {
             ones: Mask {
                 pair: list[4 * j],
@@ -91,14 +91,47 @@ fn scan(list: &[u64], at: usize, s: Settled) -> Look
                 wires: list[4 * j + 3],
             },
         };
-        let look = clause(c, s, j + 1);
+        j += 1;
+        let look = clause(c, s, if j < end { waiting } else { others });
         let Look::Rest = look else {
             return look;
         };
-        j = if j + 1 < count { j + 1 } else { 0 };
-        left -= 1;
     }
     Look::Rest
+}
+
+// The clauses of the blocks that wait, from the lowest on.
+fn scan(list: &[u64], waiting: u64, s: Settled) -> Look
+    ensures { λ r. ⌜ Scanned (wordTrue (now (list .entry))) s r ⌝ }
+{
+    let count = list.len() / 4;
+    let size = order::size(count);
+    let mut left = waiting;
+    while 0 < left {
+        let from = size * u64::trailing_zeros(left) as usize;
+        if count <= from {
+            return Look::Rest;
+        }
+        let end = if size < count - from {
+            from + size
+        } else {
+            count
+        };
+        let others = left & (left - 1);
+        let look = scan_part(list, from, end, s, left, others);
+        let Look::Rest = look else {
+            return look;
+        };
+        left = others;
+    }
+    Look::Rest
+}
+
+// All clauses of a list.
+pub fn scan_all(list: &[u64], s: Settled) -> Look
+    ensures { λ r. ⌜ Scanned (wordTrue (now (list .entry))) s r ⌝ }
+{
+    scan_part(list, 0, list.len() / 4, s, 0, 0)
 }
 
 // The part of a mask that is the state's.
@@ -112,7 +145,7 @@ fn low_part(m: Mask) -> Mask
 }
 
 // The clauses of a list that speaks of the state alone: the later half and the wires count as settled to 0, and are no part of a reason.
-fn scan_low(list: &[u64], s: Settled, next: usize) -> Look
+fn scan_low(list: &[u64], s: Settled) -> Look
     ensures { λ r. ⌜ Scanned (λ w. wordTrue (now (list .entry)) (stateOf w)) s r ⌝ }
 {
     let Settled { bits, values } = s;
@@ -124,7 +157,7 @@ fn scan_low(list: &[u64], s: Settled, next: usize) -> Look
         bits: masks::or(bits, above),
         values: low_part(values),
     };
-    let look = scan(list, 0, lowered);
+    let look = scan_all(list, lowered);
     match look {
         Look::Rest => Look::Rest,
         Look::Failed(reason) => Look::Failed(low_part(reason)),
@@ -132,12 +165,12 @@ fn scan_low(list: &[u64], s: Settled, next: usize) -> Look
             reason,
             bit,
             value,
-            next: _,
+            waiting,
         } => Look::Forced {
             reason: low_part(reason),
             bit,
             value,
-            next,
+            waiting,
         },
     }
 }
@@ -174,10 +207,7 @@ fn scan_state(states: &[u64], levels: &[u32], i: u32, s: Settled) -> Look
     requires { ⌜ StateSettled s ⌝ }
     ensures { λ r. ⌜ Scanned (allowed (now (states .entry)) (now (levels .entry)) i) s r ⌝ }
 {
-    let Settled { bits, values } = s;
-    if bits.pair & bits.wires == ALL {
-        return Look::Rest;
-    }
+    let Settled { bits: _, values } = s;
     if is_excluded(states, levels, i, values.pair % HALF) {
         return Look::Failed(Mask {
             pair: STATE,
@@ -188,7 +218,7 @@ fn scan_state(states: &[u64], levels: &[u32], i: u32, s: Settled) -> Look
 }
 
 // The excluded states. Each is a clause that some bit of the state differs; it uses all of them, so it says nothing while two are open.
-fn scan_states(states: &[u64], levels: &[u32], i: u32, s: Settled, next: usize) -> Look
+fn scan_states(states: &[u64], levels: &[u32], i: u32, s: Settled) -> Look
     ensures { λ r. ⌜ Scanned (allowed (now (states .entry)) (now (levels .entry)) i) s r ⌝ }
 {
     let Settled { bits, values: _ } = s;
@@ -214,7 +244,7 @@ fn scan_states(states: &[u64], levels: &[u32], i: u32, s: Settled, next: usize) 
                         wires: 0,
                     },
                 };
-                let look = clause(c, s, next);
+                let look = clause(c, s, 0);
                 let Look::Rest = look else {
                     return look;
                 };
@@ -225,22 +255,38 @@ fn scan_states(states: &[u64], levels: &[u32], i: u32, s: Settled, next: usize) 
     Look::Rest
 }
 
-// What is forced next: clauses come to rest before the excluded states are looked at.
-pub fn forced(within: &[u64], whole: &[u64], levels: &[u32], i: u32, s: Settled, at: usize) -> Look
-    ensures { λ r. ⌜ Scanned (fulfils (lent (within .entry) (whole .entry) (levels .entry) i)) s r ⌝ }
+// What R(i) says: the start list for R(0), else the excluded states.
+fn scan_region(within: &[u64], levels: &[u32], i: u32, s: Settled) -> Look
+    ensures { λ r. ⌜ ((whole : List ℕ) → Scanned (fulfils (region (now (within .entry)) whole (now (levels .entry)) i)) s r) ⌝ }
 {
     if i == 0 {
-        let look = scan_low(within, s, at);
-        let Look::Rest = look else {
-            return look;
-        };
-        return scan(whole, at, s);
+        return scan_low(within, s);
     }
-    let look = scan(whole, at, s);
+    scan_states(within, levels, i, s)
+}
+
+// What is forced next: the blocks that wait come to rest before R(i) is looked at, and it is not where the state's bits are those at which it was looked at
+// last, nor where no bit is open and the word is tested next.
+pub fn forced(
+    within: &[u64],
+    whole: &[u64],
+    levels: &[u32],
+    i: u32,
+    s: Settled,
+    waiting: u64,
+    looked: u64,
+) -> Look
+    ensures { λ r. ⌜ Scanned (fulfils (lent (within .entry) (whole .entry) (levels .entry) i)) s r ⌝ }
+{
+    let look = scan(whole, waiting, s);
     let Look::Rest = look else {
         return look;
     };
-    scan_states(within, levels, i, s, at)
+    let bits = s.bits;
+    if bits.pair == looked || bits.pair & bits.wires == ALL {
+        return Look::Rest;
+    }
+    scan_region(within, levels, i, s)
 }
 
 // Whether the state is none of R(i).

@@ -1,105 +1,84 @@
-// Which wires a question should try first. A wire is far if a fitting value can always be chosen for it in the end, whatever the other bits are: one that no
-// clause uses, or a gate that nothing reads. Tried before the state's bits, far wires repeat one refutation after another; tried behind them, near ones do.
-// Any mask is right: no answer depends on it, only time. So nothing is promised of what is found.
-ghost use Prim.Native.Nat.{_+_, _*_, _<_, _≤_};
-ghost use lib.ListN.{length};
+// In which order a question looks at clauses and tries bits. No answer depends on it, only time: so nothing is promised of a table, and any numbers are
+// right. The clauses of a list stand in 64 blocks. A look goes through those that wait, and a bit that is settled wakes those in which it can force another
+// bit or fail.
 
-// Clauses compared for one list: enough for any that a circuit brings, and some hundredths of a second for any other. Where they are used up, the wires that
-// are left count as near.
-const MOST_LOOKS: usize = 1_000_000;
+// far is far.rt: which wires are tried first.
+mod far;
 
-// The far wires that were found, and the looks that are left.
-struct Far {
-    wires: u64,
-    left: usize,
+use far::first;
+use masks::Mask;
+ghost use mathlib.Core.Path.{_≡_};
+ghost use Prim.Native.Nat.{_+_, _/_, _≤_};
+
+// A number for each bit of a pair, the blocks that want it 1; 64 further on those that want it 0; the same for the wires; and at the end the wires that are
+// tried first.
+pub const TABLE: usize = 257;
+
+// How many of so many clauses a block has; the last one has fewer.
+pub fn size(count: usize) -> usize
+    ensures { λ r. ⌜ r ≡ count / 64 + 1 ⌝ }
+{
+    count / 64 + 1
 }
 
-// Whether clause j uses no far wire and has the wire in its mask `at`: 2 for wanted 1, 3 for wanted 0.
-fn wants(list: &[u64], j: usize, at: usize, far: u64, wire: u64) -> bool
-    requires { ⌜ (4 * j + 3 < length (now list)) × (at ≤ 3) ⌝ }
+// The lowest position of a mask; 64 if it has none.
+fn lowest(mask: u64) -> usize
+    ensures { λ r. ⌜ r ≤ 64 ⌝ }
 {
-    list[4 * j + at] & wire != 0 && (list[4 * j + 2] | list[4 * j + 3]) & far == 0
+    u64::trailing_zeros(mask) as usize
 }
 
-// Whether clauses j and k want different values of a bit besides the wire, so that one of them is true.
-fn clash(list: &[u64], j: usize, k: usize, wire: u64) -> bool
-    requires { ⌜ (4 * j + 3 < length (now list)) × (4 * k + 3 < length (now list)) ⌝ }
+// Adds a block at each position of a mask, in the part of the table that begins at `part`.
+fn mark(table: &mut [u64; TABLE], part: usize, mask: u64, block: u64)
+    requires { ⌜ part ≤ 192 ⌝ }
 {
-    let bits = list[4 * j] & list[4 * k + 1] | list[4 * j + 1] & list[4 * k];
-    let wires = list[4 * j + 2] & list[4 * k + 3] | list[4 * j + 3] & list[4 * k + 2];
-    bits | wires & !wire != 0
-}
-
-// Whether clause j, which wants the wire 1, clashes with each that wants it 0.
-fn clashes(list: &[u64], j: usize, far: u64, wire: u64) -> bool
-    requires { ⌜ 4 * j + 3 < length (now list) ⌝ }
-{
-    let mut k = 0;
-    while k < list.len() / 4 {
-        if wants(list, k, 3, far, wire) && !clash(list, j, k, wire) {
-            return false;
-        }
-        k += 1;
+    let mut left = mask;
+    while 0 < left {
+        let at = part + lowest(left);
+        table[at] = table[at] | block;
+        left = left & (left - 1);
     }
-    true
 }
 
-// The far wires with this one, if it is far.
-fn judge(list: &[u64], wire: u64, f: Far) -> Far {
+// Writes the table of a list, of w wires, over zeros.
+fn fill(list: &[u64], w: u32, table: &mut [u64; TABLE]) {
     let count = list.len() / 4;
-    let far = f.wires;
-    let mut left = f.left;
+    let size = size(count);
     let mut j = 0;
     while j < count {
-        if left < count {
-            return Far {
-                wires: far,
-                left: 0,
-            };
-        }
-        if wants(list, j, 2, far, wire) {
-            left -= count;
-            if !clashes(list, j, far, wire) {
-                return Far { wires: far, left };
-            }
-        }
+        let block = masks::power((j / size) as u32);
+        mark(table, 0, list[4 * j], block);
+        mark(table, 64, list[4 * j + 1], block);
+        mark(table, 128, list[4 * j + 2], block);
+        mark(table, 192, list[4 * j + 3], block);
         j += 1;
     }
-    Far {
-        wires: far | wire,
-        left,
+    table[256] = first(list, w);
+}
+
+// The table of a list, of w wires.
+pub fn table(list: &[u64], w: u32) -> [u64; TABLE] {
+    let mut made = [0; TABLE];
+    fill(list, w, &mut made);
+    made
+}
+
+// The blocks of one part and the next that a bit wakes.
+fn woken_of(table: &[u64; TABLE], part: usize, bit: u64, value: u64) -> u64
+    requires { ⌜ part ≤ 128 ⌝ }
+{
+    let at = part + lowest(bit);
+    if value == 0 {
+        table[at]
+    } else {
+        table[at + 64]
     }
 }
 
-// The far wires with all others that are now found to be, from the highest down.
-fn more(list: &[u64], w: u32, f: Far) -> Far {
-    let mut found = f;
-    let mut k = w;
-    while 0 < k {
-        k -= 1;
-        let wire = masks::power(k);
-        if found.wires & wire == 0 {
-            found = judge(list, wire, found);
-        }
+// The blocks that a bit wakes when it is settled at 0 or at the bit itself: those that want the other value.
+pub fn woken(table: &[u64; TABLE], bit: Mask, value: Mask) -> u64 {
+    if bit.wires == 0 {
+        return woken_of(table, 0, bit.pair, value.pair);
     }
-    found
-}
-
-// The wires that matter to a list, of w wires: all but the far ones. A wire can become far when another has, so all are judged again until none does.
-pub fn first(list: &[u64], w: u32) -> u64 {
-    let mut far = Far {
-        wires: 0,
-        left: MOST_LOOKS,
-    };
-    let count = if w < 64 { w } else { 64 };
-    let mut rounds = count;
-    while 0 < rounds {
-        rounds -= 1;
-        let found = more(list, count, far);
-        if found.wires == far.wires {
-            return !far.wires;
-        }
-        far = found;
-    }
-    !far.wires
+    woken_of(table, 128, bit.wires, value.wires)
 }

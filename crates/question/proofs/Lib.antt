@@ -7,6 +7,7 @@ pub mod Solving
 pub mod Wide
 pub mod Along
 pub mod Walk
+pub mod Rest
 pub mod Ranges
 pub mod Blocks
 pub mod Conditions

@@ -69,6 +69,10 @@ module _ {width : ℕ} {s : Setting} {b x : ℕ} (C : Choice width s b x) (P : �
       (λ f. agree-at m w (s .values) g j (omega (arith, l j f, bit-le m j)) ∙ sym (value-other C j f))
       (eq-or-ne j k)))
 
+-- a word has the one value or the other
+pub eq-or-other : (v a c : ℕ) → v ≤ 1 → c + a ≡ 1 → (v ≡ a) ⊎ (v ≡ c)
+eq-or-other v a c h e = ⊎-elim inl (λ f. inr (omega (arith, f))) (eq-or-ne v a)
+
 -- RESOLUTION: y is the reason of the one value, z that of the other
 module _ {width : ℕ} {s : Setting} {b x : ℕ} (ok : Sound width s) (C : Choice width s b x) (P : ℕ → Bool)
     (y z : ℕ) (ry : Reason P (more s b x) y) (rz : Reason P (more s b (b - x)) z) where
@@ -83,10 +87,6 @@ module _ {width : ℕ} {s : Setting} {b x : ℕ} (ok : Sound width s) (C : Choic
   both-at : (j : ℕ) → bit both j ≡ bit (bitOr y z) j - bit b j
   unfolding both
   both-at j = less width (bitOr y z) b j (or-lt width y z (fits y (ry .among)) (fits z (rz .among))) (b-fits (C .free))
-
-  -- a word has the one value or the other
-  eq-or-other : (v a c : ℕ) → v ≤ 1 → c + a ≡ 1 → (v ≡ a) ⊎ (v ≡ c)
-  eq-or-other v a c h e = ⊎-elim inl (λ f. inr (omega (arith, f))) (eq-or-ne v a)
 
   both-reason : Reason P s both
   both-reason =

@@ -10,10 +10,12 @@ use Rattle.masks.specs.Word.{width, wordOf}
 use Rattle.look.specs.Reason.{Reason, Forces}
 use Rattle.look.specs.Look.{setting}
 use Rattle.look.specs.declared.Settled.{Settled}
-use Rattle.question.specs.Reason.{Sound, LongEnough, Passing, Unfinished, Descends, LeastWord}
+use Rattle.question.specs.Reason.{Sound, LongEnough, Follows, Passing, Unfinished, Descends, LeastWord}
 use Rattle.question.specs.declared.Descent.{Descent}
 use Rattle.question.specs.declared.engine.Found.{Found}
 use Rattle.question.specs.declared.engine.Found.the-variants.{Word, Nothing}
+use Rattle.question.specs.declared.engine.Rested.{Rested}
+use Rattle.question.specs.declared.engine.Rested.the-variants.{At, Failed as Failed′}
 use Rattle.question.specs.declared.engine.Said.{Said}
 use Rattle.question.specs.declared.engine.Said.the-variants.{Word as Word′, Failed, Forced}
 
@@ -65,7 +67,16 @@ Solved P s (Nothing reason) = Reason P (setting s) (wordOf reason)
 abbrev pub Says : (ℕ → Bool) → Settled → Said → Type 0
 Says P s (Word′ w) = Passing width P (setting s) (wordOf w)
 Says P s (Failed reason) = Reason P (setting s) (wordOf reason)
-Says P s (Forced reason b value next) = Forces width P (setting s) (wordOf reason) (wordOf b) (wordOf value)
+Says P s (Forced reason b value waiting) = Forces width P (setting s) (wordOf reason) (wordOf b) (wordOf value)
+
+-- what r has settled follows from s
+abbrev pub Comes : (ℕ → Bool) → Settled → Settled → Type 0
+Comes P s r = Follows width P (setting s) (setting r)
+
+-- forced bits come to rest, or nothing passes, for all that is settled
+abbrev pub Rests : (ℕ → Bool) → Settled → Rested → Type 0
+Rests P s (At r) = Comes P s r
+Rests P s Failed′ = Reason P (setting s) (setting s .bits)
 
 -- the walk stands at d, and goes on
 abbrev pub GoesOn : (ℕ → Bool) → ℕ → Descent → Type 0

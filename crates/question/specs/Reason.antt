@@ -49,9 +49,17 @@ resolvedAlong width trail zero reason = reason
 resolvedAlong width trail (suc k) reason =
     resolvedAlong width trail k (resolved width reason (wordOf (maskAt trail (4 * k))) (wordOf (maskAt trail (4 * k + 2))))
 
--- long enough for every open bit, and a number more
+-- long enough for every open bit
 abbrev pub LongEnough : ℕ → Setting → List ℕ → Type 0
-LongEnough width s trail = 4 * (width - ones (s .bits)) < length trail
+LongEnough width s trail = 4 * (width - ones (s .bits)) ≤ length trail
+
+-- ---- what follows
+-- What r has settled beyond s follows from it: a word that passes and agrees with s agrees with r.
+pub record Follows (width : ℕ) (P : ℕ → Bool) (s r : Setting) : Type 0 where
+  pub sound : Sound width r
+  pub beyond : ones (s .bits) ≤ ones (r .bits)
+  pub narrower : (w : ℕ) → Agrees r w → Agrees s w
+  pub kept : (w : ℕ) → P w ≡ true → Agrees s w → Agrees r w
 
 -- ---- what passes, and the walk to the least front
 -- the word w agrees on the settled bits and passes

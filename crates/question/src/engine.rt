@@ -8,7 +8,10 @@ use look::STATE;
 use look::Settled;
 use look::forced;
 use look::is_outside;
+use look::scan_all;
 use masks::Mask;
+use order::TABLE;
+use order::woken;
 ghost use mathlib.Core.Path.{_≡_};
 ghost use Prim.Native.Nat.{_<_};
 ghost use Rattle.masks.specs.Word.{width, wordOf};
@@ -16,7 +19,7 @@ ghost use Rattle.look.specs.Reason.{Open, more};
 ghost use Rattle.look.specs.Condition.{lent, fulfils};
 ghost use Rattle.look.specs.Look.{setting};
 ghost use Rattle.question.specs.Reason.{openOf, TopOpen};
-ghost use Rattle.question.specs.Engine.{Unfull, OneOf, Begins, HasOpen, Full, Solved, Says};
+ghost use Rattle.question.specs.Engine.{Valid, Unfull, OneOf, Begins, HasOpen, Full, Solved, Says, Rests};
 
 // Some word, or nothing and the settled bits that this rests on.
 pub(crate) enum Found {
@@ -25,7 +28,7 @@ pub(crate) enum Found {
 }
 
 // What a look, a test or a try says of settled bits: some word that agrees with them fulfils the condition; or none does, for these of them; or an open
-// bit is forced to `value`, since the other value fails for `reason`, and looks go on at `next`.
+// bit is forced to `value`, since the other value fails for `reason`, and these blocks of clauses wait still.
 enum Said {
     Word(Mask),
     Failed(Mask),
@@ -33,7 +36,7 @@ enum Said {
         reason: Mask,
         bit: Mask,
         value: Mask,
-        next: usize,
+        waiting: u64,
     },
 }
 
@@ -51,7 +54,8 @@ pub(crate) fn settle_at(s: Settled, bit: Mask, value: Mask) -> Settled
 // No position: the value of a bit that is settled at 0.
 pub(crate) const NONE: Mask = Mask { pair: 0, wires: 0 };
 
-// With no bit open: the word that the values are, or nothing. A failure in R(i) rests on the state's bits alone.
+// With no bit open: the word that the values are, or nothing. A failure in R(i) rests on the state's bits alone, and one in the list on a clause's: blocks
+// that should have waited and did not cost no more than that.
 fn test(within: &[u64], whole: &[u64], levels: &[u32], i: u32, s: Settled) -> Said
     requires { ⌜ Full s ⌝ }
     ensures { λ r. ⌜ Says (fulfils (lent (within .entry) (whole .entry) (levels .entry) i)) s r ⌝ }
@@ -66,7 +70,11 @@ fn test(within: &[u64], whole: &[u64], levels: &[u32], i: u32, s: Settled) -> Sa
     if system::list_true(whole, values) {
         return Said::Word(values);
     }
-    Said::Failed(bits)
+    let look = scan_all(whole, s);
+    let Look::Failed(reason) = look else {
+        return Said::Failed(bits);
+    };
+    Said::Failed(reason)
 }
 
 // The highest open bit of the front, positions of the pair, as a mask of its own.
@@ -110,43 +118,92 @@ fn pick(first: u64, s: Settled) -> Mask
     lowest_wire(!bits.wires)
 }
 
-// Settles forced bits, and notes each on the trail; with none forced it tries an open bit, and with none open it tests the word. What fails rests on bits
-// that were settled before, so its reason is resolved along the trail.
-pub(crate) fn settle(
+// Where forced bits came to rest, or that nothing passes.
+pub(crate) enum Rested {
+    At(Settled),
+    Failed,
+}
+
+// Settles forced bits until none is found, before any bit is tried. What fails then fails for all that was given, so no trail is kept.
+pub(crate) fn rest(
+    table: &[u64; TABLE],
     within: &[u64],
     whole: &[u64],
     levels: &[u32],
     i: u32,
     s: Settled,
+    waiting: u64,
+    looked: u64,
+) -> Rested
+    requires { ⌜ Valid s ⌝ }
+    ensures { λ r. ⌜ Rests (fulfils (lent (within .entry) (whole .entry) (levels .entry) i)) s r ⌝ }
+{
+    let mut r = s;
+    let mut waits = waiting;
+    loop {
+        let look = forced(within, whole, levels, i, r, waits, looked);
+        match look {
+            Look::Rest => {
+                return Rested::At(r);
+            }
+            Look::Failed(_) => {
+                return Rested::Failed;
+            }
+            Look::Forced {
+                reason: _,
+                bit,
+                value,
+                waiting: still,
+            } => {
+                r = settle_at(r, bit, value);
+                waits = still | woken(table, bit, value);
+            }
+        }
+    }
+}
+
+// Settles forced bits, and notes each on the trail; with none forced it tries an open bit, and with none open it tests the word. What fails rests on bits
+// that were settled before, so its reason is resolved along the trail.
+pub(crate) fn settle(
+    table: &[u64; TABLE],
+    within: &[u64],
+    whole: &[u64],
+    levels: &[u32],
+    i: u32,
+    s: Settled,
+    waiting: u64,
+    looked: u64,
     trail: &mut [u64],
 ) -> Found
     requires { ⌜ Begins s (now trail) ⌝ }
     ensures { λ r. ⌜ Solved (fulfils (lent (within .entry) (whole .entry) (levels .entry) i)) s r ⌝ }
 {
     let mut r = s;
-    let mut next = 0;
+    let mut waits = waiting;
+    let mut seen = looked;
     let mut noted = 0;
     loop {
-        let look = forced(within, whole, levels, i, r, next);
+        let look = forced(within, whole, levels, i, r, waits, seen);
         let said = match look {
             Look::Failed(reason) => Said::Failed(reason),
             Look::Forced {
                 reason,
                 bit,
                 value,
-                next: behind,
+                waiting: still,
             } => Said::Forced {
                 reason,
                 bit,
                 value,
-                next: behind,
+                waiting: still,
             },
             Look::Rest => {
                 let bits = r.bits;
+                seen = bits.pair;
                 if bits.pair & bits.wires == ALL {
                     test(within, whole, levels, i, r)
                 } else {
-                    attempt(within, whole, levels, i, r, &mut trail[4 * noted..])
+                    attempt(table, within, whole, levels, i, r, &mut trail[4 * noted..])
                 }
             }
         };
@@ -161,19 +218,20 @@ pub(crate) fn settle(
                 reason,
                 bit,
                 value,
-                next: behind,
+                waiting: still,
             } => {
                 note(trail, noted, reason, bit);
                 noted += 1;
                 r = settle_at(r, bit, value);
-                next = behind;
+                waits = still | woken(table, bit, value);
             }
         }
     }
 }
 
-// Tries an open bit at 0; which wires are tried first stands at the trail's end, a number less for each call. Refuted, it is forced to 1, unless the reason does without it: then 1 fails for the same.
+// Tries an open bit at 0. Refuted, it is forced to 1, unless the reason does without it: then 1 fails for the same.
 fn attempt(
+    table: &[u64; TABLE],
     within: &[u64],
     whole: &[u64],
     levels: &[u32],
@@ -184,8 +242,19 @@ fn attempt(
     requires { ⌜ HasOpen s (now trail) ⌝ }
     ensures { λ r. ⌜ Says (fulfils (lent (within .entry) (whole .entry) (levels .entry) i)) s r ⌝ }
 {
-    let bit = pick(trail[trail.len() - 1], s);
-    let f = settle(within, whole, levels, i, settle_at(s, bit, NONE), trail);
+    let bit = pick(table[256], s);
+    let bits = s.bits;
+    let f = settle(
+        table,
+        within,
+        whole,
+        levels,
+        i,
+        settle_at(s, bit, NONE),
+        woken(table, bit, NONE),
+        bits.pair,
+        trail,
+    );
     match f {
         Found::Word(word) => Said::Word(word),
         Found::Nothing(reason) => {
@@ -196,7 +265,7 @@ fn attempt(
                 reason,
                 bit,
                 value: bit,
-                next: 0,
+                waiting: 0,
             }
         }
     }

@@ -1,7 +1,9 @@
 // The question: the least state of R(i), not below a given number, that is bad, or that can step to a given state, by some setting of the wires. A word is a
 // pair, the state in its low half and the same bits one step later in its high half, and the wires; what is no free bit or wire is settled from the start.
 // The engine finds some word; a walk above it goes over the bits of a front, today the state's, and ends at a word whose front is least. Bits outside the
-// front may stay open.
+// front may stay open. What is forced before any bit is tried stays settled throughout the walk.
+//
+// Every question is lent a table, in which order to look and to try (`order::table`, once for a list). No answer depends on it.
 
 // engine is engine.rt: some word, or nothing and why.
 mod engine;
@@ -10,13 +12,18 @@ mod trail;
 
 use engine::Found;
 use engine::NONE;
+use engine::Rested;
+use engine::rest;
 use engine::settle;
 use engine::settle_at;
 use engine::top_open;
+use look::ALL;
 use look::HALF;
 use look::STATE;
 use look::Settled;
 use masks::Mask;
+use order::TABLE;
+use order::woken;
 ghost use mathlib.Core.Path.{_≡_};
 ghost use Prim.Native.Nat.{_+_, _-_, _%_, _^_, min, _<_};
 ghost use lib.Dec.{ltb};
@@ -27,19 +34,18 @@ ghost use Rattle.look.specs.Condition.{lent, fulfils};
 ghost use Rattle.question.specs.Question.{answered, badIn, stepIn};
 ghost use Rattle.question.specs.Reason.{openOf};
 ghost use Rattle.question.specs.Asked.{askedIn, asked, Block};
-ghost use Rattle.question.specs.Engine.{Few, Starts, GoesOn, Walks, LeastFront};
+ghost use Rattle.question.specs.Engine.{Valid, Few, Starts, Comes, GoesOn, Walks, LeastFront};
 
 // A state has 32 bits at most, and there are 64 wires at most.
 const MOST_OPEN: usize = 96;
 
-// Four numbers for each bit that can be open, since no bit is noted twice; and at the end the wires that are tried first.
-const TRAIL: usize = 4 * MOST_OPEN + 1;
+// Four numbers for each bit that can be open, since no bit is noted twice.
+const TRAIL: usize = 4 * MOST_OPEN;
 
-// What a question leaves free: n bits of the state and w wires; and the wires that it tries before the state's bits, which may be any.
+// What a question leaves free: n bits of the state and w wires.
 pub struct Free {
     pub n: u32,
     pub w: u32,
-    pub first: u64,
 }
 
 // A state, or that none exists.
@@ -56,6 +62,7 @@ struct Descent {
 
 // One bit of the walk, the highest of the front that it has not settled: 0 if the word in hand or another has a 0 there, else 1.
 fn descend(
+    table: &[u64; TABLE],
     within: &[u64],
     whole: &[u64],
     levels: &[u32],
@@ -76,7 +83,19 @@ fn descend(
             word,
         };
     }
-    let f = settle(within, whole, levels, i, zero, trail);
+    let waiting = woken(table, bit, NONE);
+    let looked = s.bits.pair;
+    let f = settle(
+        table,
+        within,
+        whole,
+        levels,
+        i,
+        zero,
+        waiting,
+        looked,
+        trail,
+    );
     match f {
         Found::Word(lower) => Descent {
             settled: zero,
@@ -89,6 +108,31 @@ fn descend(
     }
 }
 
+// What the walked bit forces stays settled with it. With a word in hand nothing fails.
+fn at_rest(
+    table: &[u64; TABLE],
+    within: &[u64],
+    whole: &[u64],
+    levels: &[u32],
+    i: u32,
+    before: Settled,
+    d: Descent,
+) -> Descent
+    requires { ⌜ Valid (d .settled) ⌝ }
+    ensures { λ r. ⌜ (r .word ≡ d .word) × Comes (fulfils (lent (within .entry) (whole .entry) (levels .entry) i)) (d .settled) (r .settled) ⌝ }
+{
+    let Descent { settled: s, word } = d;
+    let bit = masks::without(s.bits, before.bits);
+    let value = masks::without(s.values, before.values);
+    let waiting = woken(table, bit, value);
+    let looked = before.bits.pair;
+    let r = rest(table, within, whole, levels, i, s, waiting, looked);
+    match r {
+        Rested::At(settled) => Descent { settled, word },
+        Rested::Failed => d,
+    }
+}
+
 // Whether the walk has not settled all of the front.
 fn is_open(front: u64, d: Descent) -> bool
     ensures { λ r. ⌜ r ≡ ltb 0 (openOf width front (setting (d .settled))) ⌝ }
@@ -98,8 +142,10 @@ fn is_open(front: u64, d: Descent) -> bool
     0 < front & !bits.pair
 }
 
-// A word whose front is least: with a word in hand, a walk over the open bits of the front from the highest down.
+// A word whose front is least: what is forced before any bit is tried stays settled; then, with a word in hand, a walk over the open bits of the front from
+// the highest down.
 fn least(
+    table: &[u64; TABLE],
     within: &[u64],
     whole: &[u64],
     levels: &[u32],
@@ -111,13 +157,21 @@ fn least(
     requires { ⌜ Starts s ⌝ }
     ensures { λ r. ⌜ LeastFront (fulfils (lent (within .entry) (whole .entry) (levels .entry) i)) front s r ⌝ }
 {
-    let f = settle(within, whole, levels, i, s, trail);
-    let Found::Word(word) = f else {
-        return f;
+    let r = rest(table, within, whole, levels, i, s, ALL, 0);
+    let all = s.bits;
+    let Rested::At(settled) = r else {
+        return Found::Nothing(all);
     };
-    let mut d = Descent { settled: s, word };
+    let looked = settled.bits.pair;
+    let f = settle(table, within, whole, levels, i, settled, 0, looked, trail);
+    let Found::Word(word) = f else {
+        return Found::Nothing(all);
+    };
+    let mut d = Descent { settled, word };
     while is_open(front, d) {
-        d = descend(within, whole, levels, i, front, d, trail);
+        let before = d.settled;
+        let walked = descend(table, within, whole, levels, i, front, d, trail);
+        d = at_rest(table, within, whole, levels, i, before, walked);
     }
     let least = d.word;
     Found::Word(least)
@@ -161,6 +215,7 @@ fn open_bits(n: u32, at: u64) -> u32
 
 // The least state of a block whose pair, with `later` one step later, fulfils the condition by some setting of the wires.
 fn ask_block(
+    table: &[u64; TABLE],
     within: &[u64],
     whole: &[u64],
     levels: &[u32],
@@ -184,7 +239,7 @@ fn ask_block(
             wires: 0,
         },
     };
-    let f = least(within, whole, levels, i, STATE, s, trail);
+    let f = least(table, within, whole, levels, i, STATE, s, trail);
     match f {
         Found::Word(word) => Answer::State(word.pair % HALF),
         Found::Nothing(_) => Answer::Nothing,
@@ -195,6 +250,7 @@ fn ask_block(
 // one block; from another number on each block is larger than the one before it, so there are at most n.
 fn ask(
     free: Free,
+    table: &[u64; TABLE],
     within: &[u64],
     whole: &[u64],
     levels: &[u32],
@@ -205,13 +261,23 @@ fn ask(
     ensures { λ r. ⌜ answered r ≡ asked (free .n) (free .w) (lent (within .entry) (whole .entry) (levels .entry) i) later from ⌝ }
 {
     let mut trail = [0; TRAIL];
-    trail[4 * MOST_OPEN] = free.first;
     let n = free.n;
     let end = size(n);
     let mut at = from;
     while at < end {
         let k = open_bits(n, at);
-        let answer = ask_block(within, whole, levels, i, free, later, at, k, &mut trail);
+        let answer = ask_block(
+            table,
+            within,
+            whole,
+            levels,
+            i,
+            free,
+            later,
+            at,
+            k,
+            &mut trail,
+        );
         let Answer::Nothing = answer else {
             return answer;
         };
@@ -224,6 +290,7 @@ fn ask(
 // stored with a level of i or more. A state with no level beside it counts as stored with every level.
 pub fn step_in(
     free: Free,
+    table: &[u64; TABLE],
     start: &[u64],
     step: &[u64],
     states: &[u64],
@@ -235,14 +302,15 @@ pub fn step_in(
     ensures { λ r. ⌜ answered r ≡ stepIn (free .n) (free .w) (now (start .entry)) (now (step .entry)) (now (states .entry)) (now (levels .entry)) i target from ⌝ }
 {
     if i == 0 {
-        return ask(free, start, step, levels, i, target, from);
+        return ask(free, table, start, step, levels, i, target, from);
     }
-    ask(free, states, step, levels, i, target, from)
+    ask(free, table, states, step, levels, i, target, from)
 }
 
 // The least state of R(i) that is bad and not below `from`: the list is asked of the state's pair, with a later half of 0.
 pub fn bad_in(
     free: Free,
+    table: &[u64; TABLE],
     start: &[u64],
     bad: &[u64],
     states: &[u64],
@@ -252,18 +320,18 @@ pub fn bad_in(
 ) -> Answer
     ensures { λ r. ⌜ answered r ≡ badIn (free .n) (free .w) (now (start .entry)) (now (bad .entry)) (now (states .entry)) (now (levels .entry)) i from ⌝ }
 {
-    step_in(free, start, bad, states, levels, i, 0, from)
+    step_in(free, table, start, bad, states, levels, i, 0, from)
 }
 
 // Whether some setting of the wires makes the list true of s, with t one step later. Of both the low 32 bits count. No state is asked for: s is a block of
 // its own.
-pub fn some_true(free: Free, list: &[u64], s: u64, t: u64) -> bool
+pub fn some_true(free: Free, table: &[u64; TABLE], list: &[u64], s: u64, t: u64) -> bool
     ensures { λ r. ⌜ r ≡ someTrue (free .w) (now (list .entry)) (pair (s % 2 ^ 32) (t % 2 ^ 32)) ⌝ }
 {
     let levels = [0u32; 1];
     let mut trail = [0; TRAIL];
-    trail[4 * MOST_OPEN] = free.first;
     let answer = ask_block(
+        table,
         &list[..0],
         list,
         &levels[..0],

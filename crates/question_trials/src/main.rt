@@ -186,7 +186,15 @@ fn walk(
     NONE
 }
 
-// What the engine says. There are no wires, so it may be told to try any first.
+// In which order, which no answer depends on: what matters to the list, or any.
+fn order_of(list: &[u64], random: u64) -> [u64; order::TABLE] {
+    if random % 2 == 0 {
+        return order::table(list, 0);
+    }
+    [random; order::TABLE]
+}
+
+// What the engine says.
 fn ask(
     steps: bool,
     n: u32,
@@ -198,15 +206,12 @@ fn ask(
     target: u64,
     from: u64,
 ) -> u64 {
-    let free = question::Free {
-        n,
-        w: 0,
-        first: target,
-    };
+    let free = question::Free { n, w: 0 };
+    let order = order_of(list, target);
     let r = if steps {
-        question::step_in(free, start, list, states, levels, i, target, from)
+        question::step_in(free, &order, start, list, states, levels, i, target, from)
     } else {
-        question::bad_in(free, start, list, states, levels, i, from)
+        question::bad_in(free, &order, start, list, states, levels, i, from)
     };
     match r {
         question::Answer::State(state) => state,

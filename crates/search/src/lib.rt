@@ -13,11 +13,11 @@ ghost use Rattle.call.specs.Call.{whyNumber, leaves};
 ghost use Rattle.call.specs.Promise.{stores, Promised};
 ghost use Rattle.search.specs.Lent.{whyOf};
 ghost use Rattle.search.specs.Contracts.{Finishes, Closing, Closes};
+use question::Free;
 use react::Verdict;
 use react::Why;
 use store::keep;
 use turn::Ending;
-use turn::Frees;
 use turn::searched;
 
 // The stores as they are left: the states start with `front` of their numbers and the path with `len` of its own, and everything else is zero.
@@ -100,12 +100,20 @@ pub fn search(
     if call::wrong_stores(states, levels, path) {
         return call::Outcome::Refused(4);
     }
-    let f = Frees {
-        n,
-        w,
-        step_first: order::first(step, w),
-        bad_first: order::first(bad, w),
-    };
-    let ending = searched(f, start, step, bad, states, levels, path, allowance);
+    let step_table = order::table(step, w);
+    let bad_table = order::table(bad, w);
+    let f = Free { n, w };
+    let ending = searched(
+        f,
+        &step_table,
+        &bad_table,
+        start,
+        step,
+        bad,
+        states,
+        levels,
+        path,
+        allowance,
+    );
     close(states, levels, path, ending)
 }

@@ -25,16 +25,8 @@ use super::react::found;
 use super::react::round;
 use super::react::tested;
 use super::react::wide;
+use order::TABLE;
 use question::Free;
-
-// What the questions of a search leave free: n bits of the state and w wires; and the wires that are tried first where a step is asked for, and where a
-// bad state is.
-pub(super) struct Frees {
-    pub(super) n: u32,
-    pub(super) w: u32,
-    pub(super) step_first: u64,
-    pub(super) bad_first: u64,
-}
 
 // How a search ended, and the questions asked.
 pub(super) struct Ending {
@@ -44,7 +36,8 @@ pub(super) struct Ending {
 
 // The question for a bad state of R(i), over the stored states.
 fn bad_state(
-    f: Frees,
+    f: Free,
+    table: &[u64; TABLE],
     start: &[u64],
     bad: &[u64],
     states: &[u64],
@@ -58,17 +51,22 @@ fn bad_state(
         ≡ badIn (f .n) (f .w) (now (start .entry)) (now (bad .entry)) (take count (now (states .entry))) (take count (now (levels .entry))) i 0
         ⌝ }
 {
-    let free = Free {
-        n: f.n,
-        w: f.w,
-        first: f.bad_first,
-    };
-    question::bad_in(free, start, bad, &states[..count], &levels[..count], i, 0)
+    question::bad_in(
+        f,
+        table,
+        start,
+        bad,
+        &states[..count],
+        &levels[..count],
+        i,
+        0,
+    )
 }
 
 // The question for a state of R(i) that steps to s, over the stored states.
 fn step_state(
-    f: Frees,
+    f: Free,
+    table: &[u64; TABLE],
     start: &[u64],
     step: &[u64],
     states: &[u64],
@@ -83,13 +81,9 @@ fn step_state(
         ≡ stepIn (f .n) (f .w) (now (start .entry)) (now (step .entry)) (take count (now (states .entry))) (take count (now (levels .entry))) i s 0
         ⌝ }
 {
-    let free = Free {
-        n: f.n,
-        w: f.w,
-        first: f.step_first,
-    };
     question::step_in(
-        free,
+        f,
+        table,
         start,
         step,
         &states[..count],
@@ -102,7 +96,8 @@ fn step_state(
 
 // Step 2 (or 1).
 fn look(
-    f: Frees,
+    f: Free,
+    table: &[u64; TABLE],
     start: &[u64],
     bad: &[u64],
     states: &[u64],
@@ -118,7 +113,7 @@ fn look(
         (configOf (config N count Look) (stores (now (states .entry)) (now (levels .entry)) (now (path .entry))))))
         ⌝ }
 {
-    let answer = bad_state(f, start, bad, states, levels, count, N);
+    let answer = bad_state(f, table, start, bad, states, levels, count, N);
     match answer {
         question::Answer::State(s) => found(path, N, count, s),
         question::Answer::Nothing => round(levels, N + 1, count, 1),
@@ -127,7 +122,8 @@ fn look(
 
 // Step 3 for the duty of level k + 1, whose state stands at index k + 1 of the path store.
 fn settle(
-    f: Frees,
+    f: Free,
+    table: &[u64; TABLE],
     start: &[u64],
     step: &[u64],
     states: &mut [u64],
@@ -145,7 +141,7 @@ fn settle(
         ⌝ }
 {
     let s = path[wide(k) + 1];
-    let answer = step_state(f, start, step, states, levels, count, k, s);
+    let answer = step_state(f, table, start, step, states, levels, count, k, s);
     match answer {
         question::Answer::State(t) => deeper(path, N, count, k, t),
         question::Answer::Nothing => blocked(states, levels, N, count, k, s),
@@ -154,7 +150,8 @@ fn settle(
 
 // Step 4 at level i for entry j: its level is raised in place.
 fn raise(
-    f: Frees,
+    f: Free,
+    table: &[u64; TABLE],
     start: &[u64],
     step: &[u64],
     states: &[u64],
@@ -172,7 +169,7 @@ fn raise(
         ⌝ }
 {
     let s = states[j];
-    let answer = step_state(f, start, step, states, levels, count, i, s);
+    let answer = step_state(f, table, start, step, states, levels, count, i, s);
     match answer {
         question::Answer::State(_) => {}
         question::Answer::Nothing => {
@@ -184,7 +181,9 @@ fn raise(
 
 // One question, asked and taken in.
 fn one_turn(
-    f: Frees,
+    f: Free,
+    step_table: &[u64; TABLE],
+    bad_table: &[u64; TABLE],
     start: &[u64],
     step: &[u64],
     bad: &[u64],
@@ -204,15 +203,28 @@ fn one_turn(
     let count = c.count;
     let phase = c.phase;
     match phase {
-        Phase::Look => look(f, start, bad, states, levels, path, N, count),
-        Phase::Settle(k) => settle(f, start, step, states, levels, path, N, count, k),
-        Phase::Raise(i, j) => raise(f, start, step, states, levels, N, count, i, j),
+        Phase::Look => look(f, bad_table, start, bad, states, levels, path, N, count),
+        Phase::Settle(k) => settle(
+            f,
+            step_table,
+            start,
+            step,
+            states,
+            levels,
+            path,
+            N,
+            count,
+            k,
+        ),
+        Phase::Raise(i, j) => raise(f, step_table, start, step, states, levels, N, count, i, j),
     }
 }
 
 // Turn after turn from c, which `asked` questions led to, until one is the last or the allowance is used up.
 fn all_turns(
-    f: Frees,
+    f: Free,
+    step_table: &[u64; TABLE],
+    bad_table: &[u64; TABLE],
     start: &[u64],
     step: &[u64],
     bad: &[u64],
@@ -232,7 +244,18 @@ fn all_turns(
         ⌝ }
 {
     while asked < allowance {
-        let t = one_turn(f, start, step, bad, states, levels, path, c);
+        let t = one_turn(
+            f,
+            step_table,
+            bad_table,
+            start,
+            step,
+            bad,
+            states,
+            levels,
+            path,
+            c,
+        );
         asked += 1;
         match t {
             Move::Go(d) => {
@@ -253,20 +276,18 @@ fn all_turns(
 }
 
 // The question for a start state: a state of R(0) of which an empty list is true.
-fn start_state(f: Frees, start: &[u64], levels: &[u32]) -> question::Answer
+fn start_state(f: Free, table: &[u64; TABLE], start: &[u64], levels: &[u32]) -> question::Answer
     ensures { λ r. ⌜ answered r ≡ least (2 ^ min (f .n) 32) (λ s. listTrue (now (start .entry)) s 0) ⌝ }
 {
-    let free = Free {
-        n: f.n,
-        w: 0,
-        first: 0,
-    };
-    question::bad_in(free, start, &start[..0], &start[..0], levels, 0, 0)
+    let free = Free { n: f.n, w: 0 };
+    question::bad_in(free, table, start, &start[..0], &start[..0], levels, 0, 0)
 }
 
 // The whole search: the question for a start state, then turn after turn from step 1 on.
 pub(super) fn searched(
-    f: Frees,
+    f: Free,
+    step_table: &[u64; TABLE],
+    bad_table: &[u64; TABLE],
     start: &[u64],
     step: &[u64],
     bad: &[u64],
@@ -288,7 +309,7 @@ pub(super) fn searched(
             questions: 0,
         };
     }
-    let answer = start_state(f, start, levels);
+    let answer = start_state(f, step_table, start, levels);
     let question::Answer::State(_) = answer else {
         return Ending {
             verdict: Verdict::GaveUp(Why::NoStart),
@@ -302,6 +323,8 @@ pub(super) fn searched(
     };
     all_turns(
         f,
+        step_table,
+        bad_table,
         start,
         step,
         bad,

@@ -1,4 +1,5 @@
-// Questions about a system with random stored states, and pairs, held against the table. Each is asked four times, with other wires to try first.
+// Questions about a system with random stored states, and pairs, held against the table. Each is asked four times, in another order each time: no answer
+// depends on it.
 use super::counts;
 
 // How many questions, and how many pairs, of step and as many of bad.
@@ -43,6 +44,7 @@ fn walk(n: u32, table: &[bool], states: &[u64], levels: &[u32], q: Query) -> u64
 // What the engine says.
 fn ask(
     free: question::Free,
+    order: &[u64; order::TABLE],
     start: &[u64],
     list: &[u64],
     states: &[u64],
@@ -50,9 +52,19 @@ fn ask(
     q: Query,
 ) -> u64 {
     let answer = if q.steps {
-        question::step_in(free, start, list, states, levels, q.i, q.target, q.from)
+        question::step_in(
+            free,
+            order,
+            start,
+            list,
+            states,
+            levels,
+            q.i,
+            q.target,
+            q.from,
+        )
     } else {
-        question::bad_in(free, start, list, states, levels, q.i, q.from)
+        question::bad_in(free, order, start, list, states, levels, q.i, q.from)
     };
     match answer {
         question::Answer::State(s) => s,
@@ -60,20 +72,21 @@ fn ask(
     }
 }
 
-// Which wires are tried first: none, all, those that matter to the list, or any, with more wires declared than there can be.
-fn first(turn: u64, list: &[u64], w: u32, random: u64) -> u64 {
+// In which order: nothing is woken and no wire tried first, all is, what matters to the list, or any.
+fn order_of(turn: u64, list: &[u64], w: u32, random: u64) -> [u64; order::TABLE] {
     match turn {
-        0 => 0,
-        1 => ALL,
-        2 => order::first(list, w),
-        _ => random,
+        0 => [0; order::TABLE],
+        1 => [ALL; order::TABLE],
+        2 => order::table(list, w),
+        _ => [random; order::TABLE],
     }
 }
 
-// A question asked with some wires first.
+// A question asked in some order.
 fn compare(
     counts: &mut [u64; counts::PLACES],
     free: question::Free,
+    order: &[u64; order::TABLE],
     start: &[u64],
     list: &[u64],
     states: &[u64],
@@ -81,23 +94,24 @@ fn compare(
     q: Query,
     wanted: u64,
 ) {
-    let said = ask(free, start, list, states, levels, q);
+    let said = ask(free, order, start, list, states, levels, q);
     counts::count(counts, counts::FOUND, said != NONE);
     counts::count(counts, counts::QUESTIONS_WRONG, said != wanted);
     counts::stir(counts, counts::QUESTIONS, said);
 }
 
-// A pair asked with some wires first. Numbers above the 32 low bits of both say nothing.
+// A pair asked in some order. Numbers above the 32 low bits of both say nothing.
 fn pair(
     counts: &mut [u64; counts::PLACES],
     free: question::Free,
+    order: &[u64; order::TABLE],
     list: &[u64],
     s: u64,
     t: u64,
     wanted: bool,
     high: u64,
 ) {
-    let said = question::some_true(free, list, s | high << 32, t | high << 40);
+    let said = question::some_true(free, order, list, s | high << 32, t | high << 40);
     counts::count(counts, counts::TRUE, said);
     counts::count(counts, counts::QUESTIONS_WRONG, said != wanted);
     counts::stir(counts, counts::QUESTIONS, if said { 1 } else { 0 });
@@ -126,13 +140,14 @@ fn turns(
     };
     let mut turn = 0;
     while turn < 4 {
+        // the last time with more wires declared than there can be
         let free = question::Free {
             n,
             w: if turn < 3 { w } else { w | 64 },
-            first: first(turn, list, w, random),
         };
-        compare(counts, free, start, list, states, levels, q, wanted);
-        pair(counts, free, list, s, later, so, random >> 40);
+        let order = order_of(turn, list, w, random);
+        compare(counts, free, &order, start, list, states, levels, q, wanted);
+        pair(counts, free, &order, list, s, later, so, random >> 40);
         turn += 1;
     }
 }

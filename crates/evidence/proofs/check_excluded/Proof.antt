@@ -19,33 +19,33 @@ returns-2 c =
 
 bad-outside-requires : tie.Need-bad-outside-requires
 bad-outside-requires c κs =
-    let past = c .before .before .before in
-    rw (c .free .ensures .0) (refused-small _ _ (sym (past .before .refusal .ensures) ∙ past .if1 .left))
+    let past = c .before .before .before .before in
+    refused-small _ _ (sym (past .before .refusal .ensures) ∙ past .if1 .left)
 
 closed-requires : tie.Need-closed-requires
 closed-requires c κs =
-    let past = c .before .before .before .before .before .before .before in
-    rw (c .free2 .ensures .0) (refused-small _ _ (sym (past .before .refusal .ensures) ∙ past .if1 .left))
+    let past = c .before .before .before .before .before .before .before .before .before in
+    refused-small _ _ (sym (past .before .refusal .ensures) ∙ past .if1 .left)
 
 returns-3 : tie.Need-returns-3
 returns-3 c =
     let asked = c .before .before in
-    let made = asked .before in
-    let past = made .before .before .before in
+    let tested = asked .before .before .before in
+    let past = tested .before .before in
     excluded-bad _ _ (sym (past .before .refusal .ensures) ∙ past .if1 .left)
-    (sym (made .before .before .start-free .ensures) ∙ not-false _ (made .before .if2 .left))
-    _ (sym (rw (made .free .ensures .0, made .free .ensures .1) at (asked .bad-outside .ensures)) ∙ ap answered (c .enum-told .given .1))
+    (sym (tested .before .start-free .ensures) ∙ not-false _ (tested .if2 .left))
+    _ (sym (asked .bad-outside .ensures) ∙ ap answered (c .enum-told2 .given .1))
 
 returns-4 : tie.Need-returns-4
 returns-4 c =
-    let told = c .before .before in
+    let told = c .before .before .before in
     let asked = told .before .before in
-    let made = asked .before in
-    let past = made .before .before .before in
+    let tested = asked .before .before .before in
+    let past = tested .before .before in
     excluded-closed _ _ (sym (past .before .refusal .ensures) ∙ past .if1 .left)
-    (sym (made .before .before .start-free .ensures) ∙ not-false _ (made .before .if2 .left))
-    _ (sym (rw (made .free .ensures .0, made .free .ensures .1) at (asked .bad-outside .ensures)) ∙ ap answered (told .enum-told2 .given .1))
-    (rw (c .before .free2 .ensures .0, c .before .free2 .ensures .1) at (c .closed .ensures))
+    (sym (tested .before .start-free .ensures) ∙ not-false _ (tested .if2 .left))
+    _ (sym (asked .bad-outside .ensures) ∙ ap answered (told .enum-told .given .1))
+    (c .closed .ensures)
 
 pub check-excluded-spec : {M : Type 1} → statement M
 check-excluded-spec =
@@ -59,7 +59,7 @@ check-excluded-spec =
     bad-outside-requires
     (λ c. search needs)
     (λ c. search needs)
+    returns-3
     (λ c κs. search needs)
     closed-requires
-    returns-3
     returns-4)

@@ -13,13 +13,13 @@ use Rattle.evidence.proofs.closed.Statement.{statement}
 use Rattle.evidence.proofs.closed.Tie as tie
 
 abbrev Inv-loop : tie.InvT-loop
-Inv-loop free step states asked₀ j₀ asked j =
+Inv-loop free table step states asked₀ j₀ asked j =
     (j ≤ length states) × (asked ≡ j + 1)
     × (closedFrom (2 ^ free .n) (λ s t. someTrue (free .w) step (pair s t)) states states 1
     ≡ closedFrom (2 ^ free .n) (λ s t. someTrue (free .w) step (pair s t)) states (drop j states) asked)
 
 abbrev μ-loop : tie.MeasureT-loop
-μ-loop free step states asked₀ j₀ asked j = length states - j
+μ-loop free table step states asked₀ j₀ asked j = length states - j
 
 loop-holds : tie.Need-loop-holds Inv-loop μ-loop
 loop-holds c = (search needs, search needs, refl)

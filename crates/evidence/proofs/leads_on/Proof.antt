@@ -12,13 +12,13 @@ use Rattle.evidence.proofs.leads_on.Statement.{statement}
 use Rattle.evidence.proofs.leads_on.Tie as tie
 
 abbrev Inv-loop : tie.InvT-loop
-Inv-loop n w step bad path free-step j₀ j =
+Inv-loop n w step bad path step-table bad-table free j₀ j =
     (j < length path)
     × (leadsOn (λ s t. someTrue w step (pair s t)) (someTrue w bad) path
     ≡ leadsOn (λ s t. someTrue w step (pair s t)) (someTrue w bad) (drop j path))
 
 abbrev μ-loop : tie.MeasureT-loop
-μ-loop n w step bad path free-step j₀ j = length path - j
+μ-loop n w step bad path step-table bad-table free j₀ j = length path - j
 
 loop-holds : tie.Need-loop-holds Inv-loop μ-loop
 loop-holds c = (search needs, refl)
@@ -26,30 +26,30 @@ loop-holds c = (search needs, refl)
 returns : tie.Need-returns Inv-loop μ-loop
 returns c =
     let called = c .before in
-    let in-loop = called .before .before .before in
+    let in-loop = called .before .before .before .before in
     let begun = in-loop .before .before in
-    let small = begun .before .before .before .before .pre .1 in
-    let asked = called .some-true .ensures ∙ step-asked (begun .free .ensures .1) _ _ small _ (in-loop .loop-test .taken) in
+    let small = begun .before .before .before .before .before .pre .1 in
+    let asked = called .some-true .ensures ∙ step-asked _ _ _ small _ (in-loop .loop-test .taken) in
     sym (in-loop .before .loop .inv .1 ∙ leads-stops _ _ _ _ (in-loop .loop-test .taken) (sym asked ∙ not-true _ (c .if1 .taken)))
 
 loop-again : tie.Need-loop-again Inv-loop μ-loop
 loop-again c =
     let called = c .before in
-    let in-loop = called .before .before .before in
+    let in-loop = called .before .before .before .before in
     let begun = in-loop .before .before in
-    let small = begun .before .before .before .before .pre .1 in
-    let asked = called .some-true .ensures ∙ step-asked (begun .free .ensures .1) _ _ small _ (in-loop .loop-test .taken) in (
+    let small = begun .before .before .before .before .before .pre .1 in
+    let asked = called .some-true .ensures ∙ step-asked _ _ _ small _ (in-loop .loop-test .taken) in (
       in-loop .loop-test .taken,
       in-loop .before .loop .inv .1 ∙ leads-passes _ _ _ _ (in-loop .loop-test .taken) (sym asked ∙ not-false _ (c .if1 .left)),
     )
 
 returns-2 : tie.Need-returns-2 Inv-loop μ-loop
 returns-2 c =
-    let made = c .before .before in
-    let at-loop = made .before .before in
-    let small = at-loop .before .before .before .before .before .pre .1 in
-    let asked = c .some-true2 .ensures ∙ bad-asked (made .free2 .ensures .1) _ _ small _ (at-loop .loop .inv .0) in
-    sym (at-loop .loop .inv .1 ∙ leads-ends _ _ _ _ (at-loop .loop .inv .0) (made .before .loop-test .left) ∙ sym asked)
+    let tested = c .before .before .before in
+    let at-loop = tested .before in
+    let small = at-loop .before .before .before .before .before .before .pre .1 in
+    let asked = c .some-true2 .ensures ∙ bad-asked _ _ _ small _ (at-loop .loop .inv .0) in
+    sym (at-loop .loop .inv .1 ∙ leads-ends _ _ _ _ (at-loop .loop .inv .0) (tested .loop-test .left) ∙ sym asked)
 
 pub leads-on-spec : {M : Type 1} → statement M
 leads-on-spec =
@@ -57,6 +57,7 @@ leads-on-spec =
     (tie.spec
     Inv-loop
     μ-loop
+    (λ c κs. search needs)
     (λ c κs. search needs)
     loop-holds
     (λ c. search needs)
@@ -70,7 +71,6 @@ leads-on-spec =
     (λ c. search needs)
     (λ c. search needs)
     loop-again
-    (λ c κs. search needs)
     (λ c. search needs)
     (λ c. search needs)
     (λ c κs. search needs)

@@ -14,16 +14,16 @@ use Rattle.into.proofs.fill.Statement.{statement}
 use Rattle.into.proofs.fill.Tie as tie
 
 abbrev Inv-loop : tie.InvT-loop
-Inv-loop free step state lent count₀ from₀ store count from = Filling (2 ^ free .n) (λ s. someTrue (free .w) step (pair s state)) lent store count from
+Inv-loop free table step state lent count₀ from₀ store count from = Filling (2 ^ free .n) (λ s. someTrue (free .w) step (pair s state)) lent store count from
 
 abbrev μ-loop : tie.MeasureT-loop
-μ-loop free step state lent count₀ from₀ store count from = length lent - count
+μ-loop free table step state lent count₀ from₀ store count from = length lent - count
 
 loop-holds : tie.Need-loop-holds Inv-loop μ-loop
 loop-holds c = filling-none _ _ _
 
 -- ---- there is no state more
-add-questions : tie.Need-add-t12 Inv-loop μ-loop
+add-questions : tie.Need-add-t13 Inv-loop μ-loop
 add-questions c =
     let looped = c .before .before .before .before .before .before .before in
     omega (arith, filling-small (looped .before .before .before .pre) (looped .loop .inv))
@@ -37,7 +37,7 @@ returns c =
     (is-between _ _ _ _ (sym (ap answered (answer .enum-told .given .1)) ∙ asked .next .ensures)) (cleared .clear-behind .ensures)
 
 -- ---- there is one, and no room for it
-add-questions-2 : tie.Need-add-t18 Inv-loop μ-loop
+add-questions-2 : tie.Need-add-t19 Inv-loop μ-loop
 add-questions-2 c =
     let looped = c .before .before .before .before .before .before .before .before .before in
     omega (arith, filling-small (looped .before .before .before .pre) (looped .loop .inv))

@@ -10,13 +10,13 @@ returns c = promised-refused _ _ _ _ (c .before .refusal .ensures) (c .if1 .take
 
 fill-requires : tie.Need-fill-requires
 fill-requires c κs =
-    let past = c .before .before in
+    let past = c .before .before .before in
     refused-small _ _ (sym (past .before .refusal .ensures) ∙ past .if1 .left)
 
 returns-2 : tie.Need-returns-2
 returns-2 c =
     let filled = c .before .before in
-    let past = filled .before .before .before in
+    let past = filled .before .before .before .before in
     promised-filled _ _ _ _ _ (sym (past .before .refusal .ensures) ∙ past .if1 .left) (filled .fill .ensures)
 
 pub list-spec : {M : Type 1} → statement M

@@ -19,12 +19,12 @@ returns-3 c =
     let want-0 = or .before in
     let want-1 = want-0 .before in
     let past-2 = want-1 .before in
-    let past-1 = past-2 .before .before .before .before in
-    let a = past-1 .before .before .before .before .before .before .before .args in
-    let no-ones = sym (past-1 .before .before .and .ensures) ∙ eqb-true _ _ (sym (past-1 .before .is-empty .ensures) ∙ not-false _ (past-1 .if1 .left)) in
-    let no-zeros = sym (past-2 .before .before .before .and2 .ensures)
-    ∙ eqb-true _ _ (sym (past-2 .before .same .ensures) ∙ not-false _ (past-2 .if2 .left))
-    ∙ past-2 .before .before .and3 .ensures in
+    let past-1 = past-2 .before .before .before in
+    let a = past-1 .before .before .before .before .before .before .before .before .args in
+    let no-zeros = sym (past-1 .before .before .before .and .ensures)
+    ∙ eqb-true _ _ (sym (past-1 .before .same .ensures) ∙ not-false _ (past-1 .if1 .left))
+    ∙ past-1 .before .before .and2 .ensures in
+    let no-ones = sym (past-2 .before .before .and3 .ensures) ∙ eqb-true _ _ (sym (past-2 .before .is-empty .ensures) ∙ not-false _ (past-2 .if2 .left)) in
     rw (or2 .or2 .ensures)
     (clause-fails width _ _ _ (clause-of (a .c)) (setting (a .s))
     (word-lt (a .c .ones))
@@ -44,12 +44,12 @@ returns-6 c =
     let want-0 = or .before in
     let want-1 = want-0 .before in
     let past-2 = want-1 .before in
-    let past-1 = past-2 .before .before .before .before in
-    let a = past-1 .before .before .before .before .before .before .before .args in
-    let no-ones = sym (past-1 .before .before .and .ensures) ∙ eqb-true _ _ (sym (past-1 .before .is-empty .ensures) ∙ not-false _ (past-1 .if1 .left)) in
-    let no-zeros = sym (past-2 .before .before .before .and2 .ensures)
-    ∙ eqb-true _ _ (sym (past-2 .before .same .ensures) ∙ not-false _ (past-2 .if2 .left))
-    ∙ past-2 .before .before .and3 .ensures in
+    let past-1 = past-2 .before .before .before in
+    let a = past-1 .before .before .before .before .before .before .before .before .args in
+    let no-zeros = sym (past-1 .before .before .before .and .ensures)
+    ∙ eqb-true _ _ (sym (past-1 .before .same .ensures) ∙ not-false _ (past-1 .if1 .left))
+    ∙ past-1 .before .before .and2 .ensures in
+    let no-ones = sym (past-2 .before .before .and3 .ensures) ∙ eqb-true _ _ (sym (past-2 .before .is-empty .ensures) ∙ not-false _ (past-2 .if2 .left)) in
     rw (or2 .or2 .ensures, or .or .ensures, want-1 .without .ensures, want-0 .without2 .ensures)
     (clause-forces width _ _ _ (clause-of (a .c)) (setting (a .s))
     (word-lt (a .c .ones))
@@ -68,8 +68,8 @@ clause-spec =
     (tie.spec
     (λ c κs. search needs)
     (λ c κs. search needs)
-    (λ c. search needs)
     (λ c κs. search needs)
+    (λ c. search needs)
     (λ c κs. search needs)
     (λ c κs. search needs)
     (λ c. search needs)

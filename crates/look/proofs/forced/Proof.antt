@@ -1,29 +1,18 @@
--- `look::forced` meets its contract: the parts of the condition are looked at in turn, and what a look at one of them says, it says of the
--- condition. Assumes nothing.
+-- `look::forced` meets its contract: what a look at the blocks says, or one at R(i), it says of the condition. Assumes nothing.
 use borrow.Author.Needs.{needs}
-use Rattle.look.proofs.Parts.{region-start, region-stored, by-low, by-whole, by-states}
+use Rattle.look.specs.Condition.{region}
+use Rattle.look.proofs.Parts.{region-whole, by-whole}
 use Rattle.look.proofs.forced.Statement.{statement}
 use Rattle.look.proofs.forced.Tie as tie
 
 returns : tie.Need-returns
 returns c =
-    let zero = c .before .before in
-    rw (region-start _ _ _ _ (zero .if1 .taken)) (by-low _ _ (c .before .scan-low .result) (c .before .scan-low .ensures))
-
-returns-2 : tie.Need-returns-2
-returns-2 c =
-    let zero = c .before .before .before .before in
-    rw (region-start _ _ _ _ (zero .if1 .taken)) (by-whole _ _ (c .scan .result) (c .scan .ensures))
+    let a = c .before .before .before .before .before .args in
+    by-whole (region (a .within .now) (a .whole .now) (a .levels .now) (a .i)) (a .s) (c .before .scan .result)
+    (rw (region-whole (a .within .now) (a .whole .now) (a .levels .now) (a .i)) (c .before .scan .ensures))
 
 returns-3 : tie.Need-returns-3
-returns-3 c =
-    let above = c .before .before in
-    rw (region-stored _ _ _ _ (above .if1 .left)) (by-whole _ _ (c .before .scan2 .result) (c .before .scan2 .ensures))
-
-returns-4 : tie.Need-returns-4
-returns-4 c =
-    let above = c .before .before .before .before in
-    rw (region-stored _ _ _ _ (above .if1 .left)) (by-states _ _ (c .scan-states .result) (c .scan-states .ensures))
+returns-3 c = c .scan-region .ensures _
 
 pub forced-spec : {M : Type 1} → statement M
 forced-spec =
@@ -32,10 +21,6 @@ forced-spec =
     (λ c κs. search needs)
     (λ c. search needs)
     returns
-    (λ c κs. search needs)
-    returns-2
-    (λ c κs. search needs)
     (λ c. search needs)
-    returns-3
     (λ c κs. search needs)
-    returns-4)
+    returns-3)

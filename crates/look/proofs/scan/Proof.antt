@@ -1,32 +1,44 @@
--- `look::scan` meets its contract. The loop's invariant is that j is the index of a clause, if there is any, and that no more turns are
--- left than there are clauses. What a clause says, the list says; a list of which no clause says anything says nothing. The measure is the turns
--- left. Assumes nothing.
-use Prim.Native.Nat.{_≤_, _-_}
+-- `look::scan` meets its contract. What a block says, the list says; blocks that say nothing say nothing together, so the loop keeps nothing. The measure
+-- is what is left of the mask of blocks. Assumes nothing.
+use Prim.Native.Nat.{_-_}
 use mathlib.Core.Logic.{⊎-elim}
+use native.Mathlib.Nat.{mul-le-mul-left}
 use native.Mathlib.Omega.{arith}
 use borrow.Author.Needs.{needs}
-use Rattle.look.proofs.Lists.{list-scanned}
+use lib.Bits.{and-le-r}
+use lib.Count.{trailing-le}
 use Rattle.look.proofs.scan.Statement.{statement}
 use Rattle.look.proofs.scan.Tie as tie
 
 abbrev Inv-loop : tie.InvT-loop
-Inv-loop list at s count j₀ left₀ j left = (left ≤ count) × (j ≤ count - 1)
+Inv-loop list waiting s count size left₀ left = Unit {0}
 
 abbrev μ-loop : tie.MeasureT-loop
-μ-loop list at s count j₀ left₀ j left = left
+μ-loop list waiting s count size left₀ left = left
 
-loop-holds : tie.Need-loop-holds Inv-loop μ-loop
-loop-holds c = ⊎-elim (λ w. omega arith) (λ w. omega arith) (c .if1 .came)
+cast-from : tie.Need-cast-from Inv-loop μ-loop
+cast-from c = omega (arith, trailing-le 64 (c .before .loop .left))
 
-returns : tie.Need-returns Inv-loop μ-loop
-returns c =
-    let at-loop = c .before .before .before .before .before .before .before .before in
-    let start = at-loop .before .before .before in
-    list-scanned (start .args .list .now) (at-loop .loop .j) (omega arith) (start .args .s)
-    (c .before .clause .result) (c .before .clause .ensures)
+mul-from : tie.Need-mul-from Inv-loop μ-loop
+mul-from c =
+    let sized = c .before .before in
+    omega (
+      arith,
+      mul-le-mul-left (sized .size .result) (trailing-le 64 (c .before .loop .left)),
+      sized .size .ensures,
+    )
 
-loop-again : tie.Need-loop-again Inv-loop μ-loop
-loop-again c = ⊎-elim (λ w. omega arith) (λ w. omega arith) (c .if2 .came)
+scan-part-requires : tie.Need-scan-part-requires Inv-loop μ-loop
+scan-part-requires c κs = ⊎-elim (λ w. omega arith) (λ w. omega arith) (c .if2 .came)
+
+returns-2 : tie.Need-returns-2 Inv-loop μ-loop
+returns-2 c = c .before .scan-part .ensures
+
+loop-less : tie.Need-loop-less Inv-loop μ-loop
+loop-less c =
+    let in-loop = c .before .before .before .before .before in
+    let left = in-loop .before .loop .left in
+    omega (arith, and-le-r left (left - 1), in-loop .loop-test .taken)
 
 pub scan-spec : {M : Type 1} → statement M
 scan-spec =
@@ -34,29 +46,17 @@ scan-spec =
     (tie.spec
     Inv-loop
     μ-loop
-    loop-holds
-    (λ c. search needs)
-    (λ c. search needs)
-    (λ c. search needs)
-    (λ c. search needs)
-    (λ c. search needs)
-    (λ c. search needs)
-    (λ c. search needs)
-    (λ c. search needs)
-    (λ c. search needs)
-    (λ c. search needs)
-    (λ c. search needs)
-    (λ c. search needs)
-    (λ c. search needs)
-    (λ c. search needs)
-    (λ c. search needs)
-    (λ c. search needs)
     (λ c κs. search needs)
     (λ c. search needs)
-    returns
+    cast-from
+    mul-from
     (λ c. search needs)
     (λ c. search needs)
     (λ c. search needs)
     (λ c. search needs)
-    loop-again
+    scan-part-requires
+    (λ c. search needs)
+    returns-2
+    loop-less
+    (λ c. search needs)
     (λ c. search needs))

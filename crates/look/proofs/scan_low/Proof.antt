@@ -1,4 +1,4 @@
--- `look::scan_low` meets its contract. What `scan` says of the list with all above the low half settled to 0, it says of the state of every word,
+-- `look::scan_low` meets its contract. What `scan_all` says of the list with all above the low half settled to 0, it says of the state of every word,
 -- for the low half of the reason. Assumes nothing.
 use Prim.Native.Nat.{_-_, _^_}
 use mathlib.Core.Path.{_≡_, refl, ap, _∙_}
@@ -25,7 +25,7 @@ returns-2 c =
     let settled = lower .before .or .ensures ∙ ap (bitOr (wordOf (a .s .bits))) above in
     rw (c .low-part2 .ensures)
     (low-fails width 32 half-width _ (setting (a .s)) _
-    (rw (known .before .look .given .1, settled, lower .low-part .ensures) at (scanned .scan .ensures)))
+    (rw (known .before .look .given .1, settled, lower .low-part .ensures) at (scanned .scan-all .ensures)))
 
 returns-3 : tie.Need-returns-3
 returns-3 c =
@@ -36,7 +36,7 @@ returns-3 c =
     let settled = lower .before .or .ensures ∙ ap (bitOr (wordOf (a .s .bits))) above in
     rw (c .low-part3 .ensures)
     (low-forces width 32 half-width _ (setting (a .s)) _ _ _
-    (rw (known .before .look2 .given .1, settled, lower .low-part .ensures) at (scanned .scan .ensures)))
+    (rw (known .before .look2 .given .1, settled, lower .low-part .ensures) at (scanned .scan-all .ensures)))
 
 pub scan-low-spec : {M : Type 1} → statement M
 scan-low-spec =

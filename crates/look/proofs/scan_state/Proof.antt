@@ -10,14 +10,14 @@ use Rattle.look.proofs.States.{excluded-reason}
 use Rattle.look.proofs.scan_state.Statement.{statement}
 use Rattle.look.proofs.scan_state.Tie as tie
 
-returns-2 : tie.Need-returns-2
-returns-2 c =
-    let start = c .before .before .before .before .before .before .before .before .before in
+returns : tie.Need-returns
+returns c =
+    let start = c .before .before .before .before .before .before in
     let a = start .args in
     rw (no-wire (record { pair = 2 ^ 32 - 1; wires = 0 }) (omega arith) refl)
     (excluded-reason (a .i) (a .states .now) (a .levels .now) (setting (a .s)) (start .pre)
     (ap (excluded (a .i) (a .states .now) (a .levels .now)) (low-half (a .s .values))
-    ∙ sym (c .before .is-excluded .ensures) ∙ c .if2 .taken))
+    ∙ sym (c .before .is-excluded .ensures) ∙ c .if1 .taken))
 
 pub scan-state-spec : {M : Type 1} → statement M
-scan-state-spec = tie.close (tie.spec (λ c. search needs) (λ c κs. search needs) returns-2 (λ c. search needs))
+scan-state-spec = tie.close (tie.spec (λ c κs. search needs) returns (λ c. search needs))

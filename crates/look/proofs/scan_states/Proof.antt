@@ -11,10 +11,10 @@ use Rattle.look.proofs.scan_states.Statement.{statement}
 use Rattle.look.proofs.scan_states.Tie as tie
 
 abbrev Inv-loop : tie.InvT-loop
-Inv-loop states levels i s next «open» j₀ j = j ≤ length states
+Inv-loop states levels i s «open» j₀ j = j ≤ length states
 
 abbrev μ-loop : tie.MeasureT-loop
-μ-loop states levels i s next «open» j₀ j = length states - j
+μ-loop states levels i s «open» j₀ j = length states - j
 
 scan-state-requires : tie.Need-scan-state-requires Inv-loop μ-loop
 scan-state-requires c κs =

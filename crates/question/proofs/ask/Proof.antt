@@ -11,11 +11,11 @@ use Rattle.question.proofs.ask.Statement.{statement}
 use Rattle.question.proofs.ask.Tie as tie
 
 abbrev Inv-loop : tie.InvT-loop
-Inv-loop free within whole levels i later from trail₀ n end at₀ trail at =
+Inv-loop free table within whole levels i later from trail₀ n end at₀ trail at =
     (from ≤ at) × Free from at (passes (free .w) (region within whole levels i) later)
 
 abbrev μ-loop : tie.MeasureT-loop
-μ-loop free within whole levels i later from trail₀ n end at₀ trail at = end - at
+μ-loop free table within whole levels i later from trail₀ n end at₀ trail at = end - at
 
 loop-holds : tie.Need-loop-holds Inv-loop μ-loop
 loop-holds c = (omega arith, λ s g l. absurd (omega arith))
@@ -64,9 +64,6 @@ ask-spec =
     (tie.spec
     Inv-loop
     μ-loop
-    (λ c. search needs)
-    (λ c. search needs)
-    (λ c. search needs)
     (λ c κs. search needs)
     loop-holds
     open-bits-requires

@@ -9,11 +9,11 @@ use Rattle.question.proofs.Blocks.{block-length, block-sound, block-few
 use Rattle.question.proofs.ask_block.Statement.{statement}
 use Rattle.question.proofs.ask_block.Tie as tie
 
-mul-t17 : tie.Need-mul-t17
-mul-t17 c = omega (arith, mod-lt (c .before .before .before .before .before .args .later) (pow-pos 32))
+mul-t18 : tie.Need-mul-t18
+mul-t18 c = omega (arith, mod-lt (c .before .before .before .before .before .args .later) (pow-pos 32))
 
-add-t18 : tie.Need-add-t18
-add-t18 c =
+add-t19 : tie.Need-add-t19
+add-t19 c =
     let s = c .before .before .before .before .before in
     omega (arith, mod-lt (s .args .later) (pow-pos 32), s .pre .ends, pow-pos (s .args .k))
 
@@ -47,8 +47,8 @@ ask-block-spec =
     (tie.spec
     (λ c κs. search needs)
     (λ c κs. search needs)
-    mul-t17
-    add-t18
+    mul-t18
+    add-t19
     least-requires
     (λ c. search needs)
     (λ c. search needs)

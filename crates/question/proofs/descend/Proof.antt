@@ -28,7 +28,7 @@ returns c =
 
 settle-requires : tie.Need-settle-requires
 settle-requires c κs =
-    let met = c .before .before .before in
+    let met = c .before .before .before .before in
     let picked = met .before .before in
     let start = picked .before .before .before .before .before .before in
     let D = start .pre .0 .stands in
@@ -47,7 +47,7 @@ returns-2 : tie.Need-returns-2
 returns-2 c =
     let told = c .before in
     let tried = told .before .before in
-    let met = tried .before .before .before .before in
+    let met = tried .before .before .before .before .before in
     let picked = met .before .before in
     let start = picked .before .before .before .before .before .before in
     let D = start .pre .0 .stands in
@@ -58,7 +58,7 @@ returns-3 : tie.Need-returns-3
 returns-3 c =
     let told = c .before in
     let tried = told .before .before in
-    let refused = tried .before .before in
+    let refused = tried .before .before .before in
     let met = refused .before .before in
     let picked = met .before .before in
     let start = picked .before .before .before .before .before .before in
@@ -77,6 +77,7 @@ descend-spec =
     (λ c κs. search needs)
     (λ c κs. search needs)
     returns
+    (λ c κs. search needs)
     settle-requires
     (λ c. search needs)
     (λ c. search needs)

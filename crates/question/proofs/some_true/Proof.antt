@@ -30,9 +30,6 @@ some-true-spec =
     (λ c. search needs)
     (λ c. search needs)
     (λ c. search needs)
-    (λ c. search needs)
-    (λ c. search needs)
-    (λ c. search needs)
     ask-block-requires
     (λ c. search needs)
     (λ c. search needs)

@@ -24,7 +24,7 @@ accepted : (here : tie.Else2)
 accepted here = refused-stores _ _ {b = false} (cc) (cc)
 
 searched-requires : tie.Need-searched-requires
-searched-requires c κs = lends _ _ (accepted (c .before .before .before .before .before))
+searched-requires c κs = lends _ _ (accepted (c .before .before .before .before .before .before .before))
 
 close-requires : tie.Need-close-requires
 close-requires c κs = ends-closing (c .before .before .before .before .before .before .before .before .before .searched .ensures)
@@ -32,10 +32,10 @@ close-requires c κs = ends-closing (c .before .before .before .before .before .
 returns-3 : tie.Need-returns-3
 returns-3 c =
     let run = c .before .before .before .before .before .before .before .before .before .before .before .before .before .before .before .before in
-    let none = accepted (run .before .before .before .before .before .before) in
+    let none = accepted (run .before .before .before .before .before .before .before .before) in
     let l = run .searched .ensures .lends in
     searched-promised _ _ none (run .searched .ensures)
-    (record { states = l .states; levels = l .levels ∙ sym (lends _ _ none .levels); path = run .searched .kept .1 .1 .1 .1 .1 .1 .0 })
+    (record { states = l .states; levels = l .levels ∙ sym (lends _ _ none .levels); path = run .searched .kept .1 .1 .1 .1 .1 .1 .1 .1 .0 })
     (c .before .before .before .before .before .before .close .ensures)
 
 pub search-spec : {M : Type 1} → statement M

@@ -31,11 +31,13 @@ use Rattle.question.specs.declared.engine.Said.{Said}
 use Rattle.question.proofs.More.{more-sound, more-falls}
 use Rattle.question.proofs.Solving.{more-passes, forced, at-zero, zero-enough, refuted}
 use Rattle.question.proofs.Along.{Led, led-none, led-few, led-within, put, led-lent, led-next, led-more}
+use Rattle.order.proofs.woken.Reads as woken
 use Rattle.question.proofs.engine.attempt.Reads as attempt
+use Rattle.question.proofs.engine.attempt.Kinds.{ps as ps-attempt}
 use Rattle.question.proofs.engine.settle.Reads as settle
-use Rattle.question.proofs.engine.settle.Kinds.{ps}
+use Rattle.question.proofs.engine.settle.Kinds.{ps as ps-settle}
 use Rattle.question.proofs.engine.test.Reads as test
-use Rattle.question.proofs.engine.settle_at.Reads as settle-at
+use Rattle.question.proofs.engine.settle_at.Reads as settle-one
 use Rattle.question.proofs.engine.pick.Reads as pick
 use Rattle.question.proofs.trail.note.Reads as note
 use Rattle.question.proofs.trail.resolve_along.Reads as resolve-along
@@ -44,12 +46,11 @@ use Rattle.question.proofs.engine.+attempt+settle.Lts-settle as settle-
 use Rattle.question.proofs.engine.+attempt+settle.{statement}
 use Rattle.question.proofs.engine.+attempt+settle.Tie.{close}
 
--- both functions have the same parameters, `ps`
-abbrev μ-attempt : Measures 4 ps ℕ
-μ-attempt κs a = 2 * (width - ones (wordOf (a .1 .1 .1 .1 .0 .bits)))
+abbrev μ-attempt : Measures 5 ps-attempt ℕ
+μ-attempt κs a = 2 * (width - ones (wordOf (a .1 .1 .1 .1 .1 .0 .bits)))
 
-abbrev μ-settle : Measures 4 ps ℕ
-μ-settle κs a = μ-attempt κs a + 1
+abbrev μ-settle : Measures 5 ps-settle ℕ
+μ-settle κs a = 2 * (width - ones (wordOf (a .1 .1 .1 .1 .1 .0 .bits))) + 1
 
 -- no more entries than 128
 few : width ≤ 128
@@ -58,28 +59,36 @@ few = omega arith
 
 -- what the loop keeps
 abbrev settle-Inv-loop : settle-lts.InvT-loop
-settle-Inv-loop within whole levels i trail₀ r₀ next₀ noted₀ trail r next noted =
+settle-Inv-loop table within whole levels i waiting looked trail₀ r₀ waits₀ seen₀ noted₀ trail r waits seen noted =
     Led width (fulfils (region within whole levels i)) (setting r₀) trail noted (setting r) × (length trail ≡ length trail₀)
 
 abbrev settle-μ-loop : settle-lts.MeasureT-loop
-settle-μ-loop within whole levels i trail₀ r₀ next₀ noted₀ trail r next noted = width - ones (wordOf (r .bits))
+settle-μ-loop table within whole levels i waiting looked trail₀ r₀ waits₀ seen₀ noted₀ trail r waits seen noted = width - ones (wordOf (r .bits))
 
 module _ (t : ℕ) where
-  -- what a function with the measure μ is given at t, and what a call of it asks below t
-  abbrev at : Measures 4 ps ℕ → In 4 ps → In 4 ps
-  at μ pre = and 4 ps (is 4 ps μ t) pre
+  -- what each function is given at t, and what a call of it asks below t
+  abbrev attempt-at : In 5 ps-attempt
+  attempt-at = and 5 ps-attempt (is 5 ps-attempt μ-attempt t) attempt.Pre
 
-  abbrev below : Measures 4 ps ℕ → In 4 ps → In 4 ps
-  below μ pre = and 4 ps (falls 4 ps _<_ μ t) pre
+  abbrev attempt-below : In 5 ps-attempt
+  attempt-below = and 5 ps-attempt (falls 5 ps-attempt _<_ μ-attempt t) attempt.Pre
+
+  abbrev settle-at : In 5 ps-settle
+  settle-at = and 5 ps-settle (is 5 ps-settle μ-settle t) settle.Pre
+
+  abbrev settle-below : In 5 ps-settle
+  settle-below = and 5 ps-settle (falls 5 ps-settle _<_ μ-settle t) settle.Pre
 
   -- what the calls of each function ask and answer
   abbrev attempt-calls : attempt-lts.Claims
   attempt-calls = (
     pick.Asked,
     pick.Learnt,
-    settle-at.Asked,
-    settle-at.Learnt,
-    below μ-settle settle.Pre,
+    settle-one.Asked,
+    settle-one.Learnt,
+    woken.Asked,
+    woken.Learnt,
+    settle-below,
     settle.Post,
     and′.Asked,
     and′.Learnt,
@@ -93,20 +102,22 @@ module _ (t : ℕ) where
     forced.Learnt,
     test.Asked,
     test.Learnt,
-    below μ-attempt attempt.Pre,
+    attempt-below,
     attempt.Post,
     resolve-along.Asked,
     resolve-along.Learnt,
     note.Asked,
     note.Learnt,
-    settle-at.Asked,
-    settle-at.Learnt,
+    settle-one.Asked,
+    settle-one.Learnt,
+    woken.Asked,
+    woken.Learnt,
   )
 
   -- ---- `attempt`
   -- where a call of it has picked the bit to try
-  module _ (p : attempt-lts.After-pick attempt-calls (at μ-attempt attempt.Pre) attempt.Post) where
-    abbrev begun : attempt-lts.Start attempt-calls (at μ-attempt attempt.Pre) attempt.Post
+  module _ (p : attempt-lts.After-pick attempt-calls attempt-at attempt.Post) where
+    abbrev begun : attempt-lts.Start attempt-calls attempt-at attempt.Post
     begun = p .before .before .before .before .before .before
 
     abbrev zero : Choice width (setting (begun .args .s)) (wordOf (p .pick .result)) 0
@@ -117,57 +128,50 @@ module _ (t : ℕ) where
         ≡ more (setting (begun .args .s)) (wordOf (p .pick .result)) 0
     at-none = ap (more (setting (begun .args .s)) (wordOf (p .pick .result))) zero-word
 
-  -- the trail has a number at its end
-  attempt-sub-pick : attempt-lts.Need-sub-pick attempt-calls (at μ-attempt attempt.Pre) attempt.Post
-  attempt-sub-pick c = omega (arith, c .before .before .before .before .pre .1 .begins .long)
-
-  attempt-slice-read-pick : attempt-lts.Need-slice-read-pick attempt-calls (at μ-attempt attempt.Pre) attempt.Post
-  attempt-slice-read-pick c = omega (arith, c .before .before .before .before .before .pre .1 .begins .long)
-
-  attempt-pick-requires : attempt-lts.Need-pick-requires attempt-calls (at μ-attempt attempt.Pre) attempt.Post
+  attempt-pick-requires : attempt-lts.Need-pick-requires attempt-calls attempt-at attempt.Post
   attempt-pick-requires c κs = c .before .before .before .before .before .pre .1 .some
 
-  attempt-settle-requires : attempt-lts.Need-settle-requires attempt-calls (at μ-attempt attempt.Pre) attempt.Post
+  attempt-settle-requires : attempt-lts.Need-settle-requires attempt-calls attempt-at attempt.Post
   attempt-settle-requires c κs =
-      let picked = c .before .before in
+      let picked = c .before .before .before .before in
       let b = begun picked .pre .1 .begins in
       let f = more-falls (zero picked) (b .valid) in
-      let e = c .before .settle-at .ensures ∙ at-none picked in
+      let e = c .before .before .settle-at .ensures ∙ at-none picked in
       let n = ap (λ (t : Setting). ones (t .bits)) e in (
         omega (arith, n, f .one, f .most, begun picked .pre .0),
         record { valid = rw e (more-sound (zero picked) (b .valid)); long = omega (arith, n, f .one, b .long) },
       )
 
-  attempt-returns : attempt-lts.Need-returns attempt-calls (at μ-attempt attempt.Pre) attempt.Post
+  attempt-returns : attempt-lts.Need-returns attempt-calls attempt-at attempt.Post
   attempt-returns c =
       let met = c .before .before in
       let told = met .before .before in
       let settled = told .before .before .before .before in
-      let picked = settled .before .before .before in
+      let picked = settled .before .before .before .before .before in
       zero-enough (begun picked .pre .1 .begins .valid) (picked .pick .ensures) (fulfils _) _
-      (rw (told .f2 .given .1, settled .before .before .settle-at .ensures ∙ at-none picked) at (settled .settle .ensures))
+      (rw (told .f2 .given .1, settled .before .before .before .settle-at .ensures ∙ at-none picked) at (settled .settle .ensures))
       (sym (met .and .ensures) ∙ eqb-true _ _ (sym (c .before .is-empty .ensures) ∙ c .if1 .taken))
 
-  attempt-returns-2 : attempt-lts.Need-returns-2 attempt-calls (at μ-attempt attempt.Pre) attempt.Post
+  attempt-returns-2 : attempt-lts.Need-returns-2 attempt-calls attempt-at attempt.Post
   attempt-returns-2 c =
       let told = c .before in
       let settled = told .before .before .before .before in
-      let picked = settled .before .before .before in
+      let picked = settled .before .before .before .before .before in
       more-passes (zero picked) (fulfils _) _
-      (rw (told .f .given .1, settled .before .before .settle-at .ensures ∙ at-none picked) at (settled .settle .ensures))
+      (rw (told .f .given .1, settled .before .before .before .settle-at .ensures ∙ at-none picked) at (settled .settle .ensures))
 
-  attempt-returns-3 : attempt-lts.Need-returns-3 attempt-calls (at μ-attempt attempt.Pre) attempt.Post
+  attempt-returns-3 : attempt-lts.Need-returns-3 attempt-calls attempt-at attempt.Post
   attempt-returns-3 c =
       let told = c .before .before .before .before in
       let settled = told .before .before .before .before in
-      let picked = settled .before .before .before in
+      let picked = settled .before .before .before .before .before in
       refuted (begun picked .pre .1 .begins .valid) (picked .pick .ensures)
-      (rw (told .f2 .given .1, settled .before .before .settle-at .ensures ∙ at-none picked) at (settled .settle .ensures))
+      (rw (told .f2 .given .1, settled .before .before .before .settle-at .ensures ∙ at-none picked) at (settled .settle .ensures))
 
   -- ---- `settle`
   -- where a turn of its loop begins
-  module _ (p : settle-lts.At-loop settle-calls (at μ-settle settle.Pre) settle.Post settle-Inv-loop settle-μ-loop) where
-    abbrev entered : settle-lts.Start settle-calls (at μ-settle settle.Pre) settle.Post settle-Inv-loop settle-μ-loop
+  module _ (p : settle-lts.At-loop settle-calls settle-at settle.Post settle-Inv-loop settle-μ-loop) where
+    abbrev entered : settle-lts.Start settle-calls settle-at settle.Post settle-Inv-loop settle-μ-loop
     entered = p .before .before .before .before .before
 
     -- what is asked of a pair
@@ -200,53 +204,53 @@ module _ (t : ℕ) where
     comes-as e f h = rw (e, f) h
 
   -- the four ways that a turn can go: failed and forced by a look, tested, tried
-  came : (p : settle-lts.At-match-came settle-calls (at μ-settle settle.Pre) settle.Post settle-Inv-loop settle-μ-loop)
+  came : (p : settle-lts.At-match-came settle-calls settle-at settle.Post settle-Inv-loop settle-μ-loop)
       → Comes (p .before .before) (p .match .trail) (p .match .said)
   came p =
       let turn = p .before .before in
       let L = turn .loop .inv in
       ⊎-elim
-      (λ w. comes-as turn (w .3) (w .4) record { leads = L; says = rw (w .1 .given .1) at (p .before .forced .ensures) })
+      (λ w. comes-as turn (w .3) (w .5) record { leads = L; says = rw (w .1 .given .1) at (p .before .forced .ensures) })
       (λ v. ⊎-elim
-      (λ w. comes-as turn (w .3) (w .4) record { leads = L; says = rw (w .1 .given .1) at (p .before .forced .ensures) })
+      (λ w. comes-as turn (w .3) (w .5) record { leads = L; says = rw (w .1 .given .1) at (p .before .forced .ensures) })
       (λ u. ⊎-elim
-      (λ w. comes-as turn (w .6) (w .7) record { leads = L; says = w .5 .ensures })
-      (λ w. comes-as turn (w .9) (w .10) record {
-        leads = back turn (w .6 .last .1 .1 .1 .1 .1 .0) (w .7 .given .1);
+      (λ w. comes-as turn (w .6) (w .8) record { leads = L; says = w .5 .ensures })
+      (λ w. comes-as turn (w .9) (w .11) record {
+        leads = back turn (w .6 .last .1 .1 .1 .1 .1 .1 .0) (w .7 .given .1);
         says = w .6 .ensures;
       })
       u)
       v)
       (p .match .came)
 
-  settle-loop-holds : settle-lts.Need-loop-holds settle-calls (at μ-settle settle.Pre) settle.Post settle-Inv-loop settle-μ-loop
+  settle-loop-holds : settle-lts.Need-loop-holds settle-calls settle-at settle.Post settle-Inv-loop settle-μ-loop
   settle-loop-holds c = (led-none (c .before .before .before .before .pre .1 .valid), refl)
 
-  settle-test-requires : settle-lts.Need-test-requires settle-calls (at μ-settle settle.Pre) settle.Post settle-Inv-loop settle-μ-loop
+  settle-test-requires : settle-lts.Need-test-requires settle-calls settle-at settle.Post settle-Inv-loop settle-μ-loop
   settle-test-requires c κs =
       let turn = c .before .before .before .before .before .before in
       record { valid = turn .loop .inv .0 .sound; all = full-word (turn .loop .r .bits) (c .if1 .taken) }
 
-  settle-mul-attempt : settle-lts.Need-mul-attempt settle-calls (at μ-settle settle.Pre) settle.Post settle-Inv-loop settle-μ-loop
+  settle-mul-attempt : settle-lts.Need-mul-attempt settle-calls settle-at settle.Post settle-Inv-loop settle-μ-loop
   settle-mul-attempt c = record { fits = omega (arith, few, led-few (c .before .before .before .before .before .before .loop .inv .0)) }
 
-  settle-mul-attempt-2 : settle-lts.Need-mul-attempt-2 settle-calls (at μ-settle settle.Pre) settle.Post settle-Inv-loop settle-μ-loop
+  settle-mul-attempt-2 : settle-lts.Need-mul-attempt-2 settle-calls settle-at settle.Post settle-Inv-loop settle-μ-loop
   settle-mul-attempt-2 c = record { fits = omega (arith, few, led-few (c .before .before .before .before .before .before .loop .inv .0)) }
 
-  settle-sub-attempt : settle-lts.Need-sub-attempt settle-calls (at μ-settle settle.Pre) settle.Post settle-Inv-loop settle-μ-loop
+  settle-sub-attempt : settle-lts.Need-sub-attempt settle-calls settle-at settle.Post settle-Inv-loop settle-μ-loop
   settle-sub-attempt c =
       let turn = c .before .before .before .before .before .before in
       omega (arith, within turn (turn .loop .inv))
 
-  settle-part-attempt-start : settle-lts.Need-part-attempt-start settle-calls (at μ-settle settle.Pre) settle.Post settle-Inv-loop settle-μ-loop
+  settle-part-attempt-start : settle-lts.Need-part-attempt-start settle-calls settle-at settle.Post settle-Inv-loop settle-μ-loop
   settle-part-attempt-start c =
       let turn = c .before .before .before .before .before .before in
       omega (arith, within turn (turn .loop .inv))
 
-  settle-part-attempt-end : settle-lts.Need-part-attempt-end settle-calls (at μ-settle settle.Pre) settle.Post settle-Inv-loop settle-μ-loop
+  settle-part-attempt-end : settle-lts.Need-part-attempt-end settle-calls settle-at settle.Post settle-Inv-loop settle-μ-loop
   settle-part-attempt-end c = le-refl (length (c .before .before .before .before .before .before .loop .trail))
 
-  settle-attempt-requires : settle-lts.Need-attempt-requires settle-calls (at μ-settle settle.Pre) settle.Post settle-Inv-loop settle-μ-loop
+  settle-attempt-requires : settle-lts.Need-attempt-requires settle-calls settle-at settle.Post settle-Inv-loop settle-μ-loop
   settle-attempt-requires c κs =
       let turn = c .before .before .before .before .before .before .before in
       let L = turn .loop .inv .0 in (
@@ -257,56 +261,56 @@ module _ (t : ℕ) where
         },
       )
 
-  settle-same-length : settle-lts.Need-same-length settle-calls (at μ-settle settle.Pre) settle.Post settle-Inv-loop settle-μ-loop
+  settle-same-length : settle-lts.Need-same-length settle-calls settle-at settle.Post settle-Inv-loop settle-μ-loop
   settle-same-length c = came (c .before .before .before) .leads .1
 
-  settle-returns : settle-lts.Need-returns settle-calls (at μ-settle settle.Pre) settle.Post settle-Inv-loop settle-μ-loop
+  settle-returns : settle-lts.Need-returns settle-calls settle-at settle.Post settle-Inv-loop settle-μ-loop
   settle-returns c =
       let told = c .before in
       let h = came (told .before .before) in
       h .leads .0 .passes _ (rw (told .said .given .1) at (h .says))
 
-  settle-resolve-along-requires : settle-lts.Need-resolve-along-requires settle-calls (at μ-settle settle.Pre) settle.Post settle-Inv-loop settle-μ-loop
+  settle-resolve-along-requires : settle-lts.Need-resolve-along-requires settle-calls settle-at settle.Post settle-Inv-loop settle-μ-loop
   settle-resolve-along-requires c κs =
       let p = c .before .before .before .before in
       within (p .before .before) (came p .leads)
 
-  settle-same-length-2 : settle-lts.Need-same-length-2 settle-calls (at μ-settle settle.Pre) settle.Post settle-Inv-loop settle-μ-loop
+  settle-same-length-2 : settle-lts.Need-same-length-2 settle-calls settle-at settle.Post settle-Inv-loop settle-μ-loop
   settle-same-length-2 c = came (c .before .before .before .before .before) .leads .1
 
-  settle-returns-2 : settle-lts.Need-returns-2 settle-calls (at μ-settle settle.Pre) settle.Post settle-Inv-loop settle-μ-loop
+  settle-returns-2 : settle-lts.Need-returns-2 settle-calls settle-at settle.Post settle-Inv-loop settle-μ-loop
   settle-returns-2 c =
       let told = c .before .before .before in
       let h = came (told .before .before) in
       rw (c .resolve-along .ensures) (h .leads .0 .reasons _ (rw (told .said2 .given .1) at (h .says)))
 
-  settle-note-requires : settle-lts.Need-note-requires settle-calls (at μ-settle settle.Pre) settle.Post settle-Inv-loop settle-μ-loop
+  settle-note-requires : settle-lts.Need-note-requires settle-calls settle-at settle.Post settle-Inv-loop settle-μ-loop
   settle-note-requires c κs =
       let told = c .before .before in
       let p = told .before .before in
       let h = came p in
       led-next (h .leads .0) _ _ (rw (told .said3 .given .1) at (h .says)) (long (p .before .before) (h .leads))
 
-  settle-add-noted : settle-lts.Need-add-noted settle-calls (at μ-settle settle.Pre) settle.Post settle-Inv-loop settle-μ-loop
+  settle-add-noted : settle-lts.Need-add-noted settle-calls settle-at settle.Post settle-Inv-loop settle-μ-loop
   settle-add-noted c =
       let p = c .before .before .before .before .before .before .before in
       record { fits = omega (arith, few, led-few (p .before .before .loop .inv .0)) }
 
-  settle-loop-less : settle-lts.Need-loop-less settle-calls (at μ-settle settle.Pre) settle.Post settle-Inv-loop settle-μ-loop
+  settle-loop-less : settle-lts.Need-loop-less settle-calls settle-at settle.Post settle-Inv-loop settle-μ-loop
   settle-loop-less c =
-      let told = c .before .before .before .before .before .before in
+      let told = c .before .before .before .before .before .before .before in
       let h = came (told .before .before) in
       let ok = h .leads .0 .sound in
       let f = more-falls (forced ok (rw (told .said3 .given .1) at (h .says))) ok in
-      omega (arith, ap (λ (t : Setting). ones (t .bits)) (c .settle-at .ensures), f .one, f .most)
+      omega (arith, ap (λ (t : Setting). ones (t .bits)) (c .before .settle-at .ensures), f .one, f .most)
 
-  settle-loop-again : settle-lts.Need-loop-again settle-calls (at μ-settle settle.Pre) settle.Post settle-Inv-loop settle-μ-loop
+  settle-loop-again : settle-lts.Need-loop-again settle-calls settle-at settle.Post settle-Inv-loop settle-μ-loop
   settle-loop-again c =
-      let told = c .before .before .before .before .before .before in
+      let told = c .before .before .before .before .before .before .before in
       let p = told .before .before in
       let h = came p in
       let F = rw (told .said3 .given .1) at (h .says) in
-      rw (c .settle-at .ensures, c .before .before .before .note .ensures)
+      rw (c .before .settle-at .ensures, c .before .before .before .before .note .ensures)
       (led-more (h .leads .0) _ _ F (led-next (h .leads .0) _ _ F (long (p .before .before) (h .leads))), simp length-set (h .leads .1))
 
 pub +attempt+settle-spec : {M : Type 1} → statement M
@@ -314,11 +318,10 @@ pub +attempt+settle-spec : {M : Type 1} → statement M
     close
     μ-attempt
     μ-settle
-    (λ t. attempt-lts.spec (attempt-calls t) (at t μ-attempt attempt.Pre) attempt.Post
-    (attempt-sub-pick t)
+    (λ t. attempt-lts.spec (attempt-calls t) (attempt-at t) attempt.Post
     (λ c. search needs)
-    (attempt-slice-read-pick t)
     (attempt-pick-requires t)
+    (λ c κs. search needs)
     (λ c κs. search needs)
     (attempt-settle-requires t)
     (λ c. search needs)
@@ -331,7 +334,7 @@ pub +attempt+settle-spec : {M : Type 1} → statement M
     (attempt-returns-2 t)
     (λ c. search needs)
     (attempt-returns-3 t))
-    (λ t. settle-lts.spec (settle-calls t) (at t μ-settle settle.Pre) settle.Post settle-Inv-loop settle-μ-loop
+    (λ t. settle-lts.spec (settle-calls t) (settle-at t) settle.Post settle-Inv-loop settle-μ-loop
     (settle-loop-holds t)
     (λ c κs. search needs)
     (λ c. search needs)
@@ -354,6 +357,7 @@ pub +attempt+settle-spec : {M : Type 1} → statement M
     (λ c. search needs)
     (settle-note-requires t)
     (settle-add-noted t)
+    (λ c κs. search needs)
     (λ c κs. search needs)
     (settle-loop-less t)
     (settle-loop-again t))

@@ -15,13 +15,13 @@ use Rattle.search.proofs.turn.all_turns.Statement.{statement}
 use Rattle.search.proofs.turn.all_turns.Tie as tie
 
 abbrev Inv-loop : tie.InvT-loop
-Inv-loop f start step bad states₀ levels₀ path₀ c₀ asked₀ allowance states levels path c asked =
+Inv-loop f step-table bad-table start step bad states₀ levels₀ path₀ c₀ asked₀ allowance states levels path c asked =
     Running (systemOf (f .n) (f .w) start step bad) allowance (stores states₀ levels₀ path₀)
     (searchFrom rounds (allowance - asked₀) (model (systemOf (f .n) (f .w) start step bad)) (length states₀) (configOf c₀ (stores states₀ levels₀ path₀)) asked₀)
     c asked (stores states levels path)
 
 abbrev μ-loop : tie.MeasureT-loop
-μ-loop f start step bad states₀ levels₀ path₀ c₀ asked₀ allowance states levels path c asked = allowance - asked
+μ-loop f step-table bad-table start step bad states₀ levels₀ path₀ c₀ asked₀ allowance states levels path c asked = allowance - asked
 
 loop-holds : tie.Need-loop-holds Inv-loop μ-loop
 loop-holds c =
