@@ -126,9 +126,22 @@ def family(what, name, size, *kinds):
     line(what, times, counts, "%.2f a question, %s questions, %s, %s states" % (times["now"] / int(asked), asked, verdict, states))
 
 
-def scanned(what, file, runs):
-    took = min(run("now", "scan", given=file)[0] for _ in range(runs))
-    first = bytes.fromhex(run("now", "scan", given=file)[2][0])
+def draw(*words):
+    with open(SYSTEM, "wb") as system:
+        subprocess.run([sys.executable, "bench/drawn.py", *map(str, words)], stdout=system, check=True)
+
+
+def imported(what):
+    """A line of the circuit that is drawn."""
+    rounds = enough("import_bench", lambda rounds: [rounds], SYSTEM)
+    [(least, (number, bits, wires, *masks))] = timed("import_bench", [rounds], given=SYSTEM)
+    said = "refused with " + number if int(number) else "%s bits, %s wires, %d clauses" % (bits, wires, sum(map(int, masks)) // 4)
+    line(what, by(least, rounds / 1e6), {}, said)
+
+
+def scanned(what, file, runs, program="scan"):
+    took = min(run("now", program, given=file)[0] for _ in range(runs))
+    first = bytes.fromhex(run("now", program, given=file)[2][0])
     number = int.from_bytes
     if first[0] in (0x80, 0x90):
         said = "%s %7d questions %5d states" % ("  safe" if first[0] == 0x80 else "unsafe", number(first[1:5], "big"), number(first[5:9], "big"))
@@ -175,6 +188,14 @@ for kind in "and", "or", "xor":
 for k in 24, 48, 100:
     family("ring %d" % k, "ring", k)
 
+head("Imports of circuits", "us an import")
+for outputs in 1, 3000, 15000:
+    draw("full", outputs)
+    imported("largest, outputs %d" % outputs)
+for bricks in 6, 48:
+    draw("counter", bricks, "unsafe")
+    imported("counter of %d bricks" % bricks)
+
 print("scan on the examples, by the clock, its start included; the fastest of fifty runs each")
 for file in sorted(glob.glob("examples/*.house")):
     scanned(os.path.basename(file), file, 50)
@@ -184,3 +205,11 @@ for kind in "safe", "unsafe":
         with open(SYSTEM, "wb") as system:
             subprocess.run([sys.executable, "bench/ring.py", str(bits), kind], stdout=system, check=True)
         scanned("%d bits, %s" % (bits, kind), SYSTEM, 3)
+print("scan_circuit on the examples, likewise")
+for file in sorted(glob.glob("examples/*.aag")):
+    scanned(os.path.basename(file), file, 50, "scan_circuit")
+print("scan_circuit on counters of k bricks with an input that enables them; the fastest of fifty runs each")
+for kind in "safe", "unsafe":
+    for bricks in 6, 12, 24, 48:
+        draw("counter", bricks, kind)
+        scanned("%d bricks, %s" % (bricks, kind), SYSTEM, 50, "scan_circuit")

@@ -1,26 +1,23 @@
 #!/usr/bin/env python3
 """Writes the texts of the trials and the answers that the scope gives them: `stdin` and `stdout` beside this file.
 
-The answers come from a reader of lines, the states of which a list is true, and the search as the scope tells it.
+Here are the house files: their answers come from a reader of lines, the states of which a list is true, and the search as the scope tells it. Behind
+them come the circuits of `circuit_texts.py`, answered by `circuits.py`.
 """
 import os
 import random
 import sys
 
 sys.dont_write_bytecode = True
-sys.path.insert(0, os.path.join(os.path.dirname(os.path.abspath(__file__)), "../small_systems"))
-from search import Search
+import circuit_texts
+import circuits
+from frames import frame, refused, searched
 
-ROOM, ALLOWANCE = 1024, 1000000
 LENGTHS = {0x00: 3, 0x01: 10, 0x02: 18, 0x03: 10, 0x0F: 4}
 AFTER = {None: [0], 0: [1, 2, 3, 15], 1: [1, 2, 3, 15], 2: [2, 3, 15], 3: [3, 15], 15: []}
 
 
 # ---- answers
-
-
-def frame(*data):
-    return (bytes(data) + bytes([-sum(data) % 256])).hex().upper().encode() + b"\n"
 
 
 def read(text):
@@ -73,23 +70,17 @@ class Before(dict):
 def answer(text):
     r = read(text)
     if r[0]:
-        return frame(0xF0, r[0], *r[1].to_bytes(2, "big"))
+        return refused(*r)
     n, lists = r[1:]
     if not 1 <= n <= 32:
-        return frame(0xF0, 1, 0, 0)
+        return refused(1, 0)
     low = (1 << n) - 1
     for kind, clauses in lists.items():
         later = low if kind == 2 else 0
         if any(mask & 0xFFFFFFFF & ~low or mask >> 32 & ~later for clause in clauses for mask in clause):
-            return frame(0xF0, 3, 0, 0)
+            return refused(3, 0)
     start, bad = ([s for s in range(1 << n) if true(lists[kind], s)] for kind in (1, 3))
-    search = Search(set(start), Before(n, lists[2]), bad, ROOM, ALLOWANCE)
-    number, said, evidence = search.run()
-    asked = search.asked.to_bytes(4, "big")
-    if number:
-        return frame(0xA0, number, *asked)
-    kind = (0x80, 0x90)[said]
-    return frame(kind, *asked, *len(evidence).to_bytes(4, "big")) + b"".join(frame(kind + 1, *s.to_bytes(4, "big")) for s in evidence)
+    return searched(set(start), Before(n, lists[2]), bad)
 
 
 # ---- texts
@@ -219,20 +210,37 @@ def texts():
     yield [(1, file(11, [(0, 1 << p) for p in range(11)], [(0, 0)], [(0x7FF, 0)]))]
 
 
+def all_texts():
+    """Each text with the number of what it is given to, the lengths of stores, and what is to be written."""
+    for pieces in texts():
+        yield pieces, 0, (), answer
+    for pieces, stores in circuit_texts.texts():
+        if stores:
+            yield pieces, 2, stores, lambda text: circuits.imported(text, stores)
+        else:
+            yield pieces, 1, (), circuits.answer
+
+
+def kind(to, said):
+    """What is counted: a verdict, or a number behind what was given up or refused."""
+    if to == 2:
+        return "import " + said.split()[0].decode()
+    return ("house ", "circuit ")[to] + said[: 4 if said[:2] in (b"A0", b"F0") else 2].decode()
+
+
 def main():
     folder = os.path.dirname(os.path.abspath(__file__))
     with open(os.path.join(folder, "stdin"), "wb") as given, open(os.path.join(folder, "stdout"), "wb") as wanted:
         seen = {}
-        for pieces in texts():
+        for pieces, to, stores, says in all_texts():
             for times, piece in pieces:
                 if piece:
                     given.write(times.to_bytes(2, "big") + len(piece).to_bytes(2, "big") + piece)
-            given.write(bytes(4))
-            said = answer(b"".join(times * piece for times, piece in pieces))
+            given.write(b"".join(x.to_bytes(2, "big") for x in (0, to, *stores)))
+            said = says(b"".join(times * piece for times, piece in pieces))
             wanted.write(said)
-            kind = said[:4] if said[:2] in (b"A0", b"F0") else said[:2]
-            seen[kind] = seen.get(kind, 0) + 1
-        print(sum(seen.values()), "texts:", ", ".join(f"{k.decode()} {n}" for k, n in sorted(seen.items())))
+            seen[kind(to, said)] = seen.get(kind(to, said), 0) + 1
+        print(sum(seen.values()), "texts:", ", ".join(f"{k} {n}" for k, n in sorted(seen.items())))
 
 
 if __name__ == "__main__":

@@ -46,7 +46,7 @@ refusal-of y a b c zeroth first third =
     (λ f. third (rw (e, refusalOf) (rw (a, b, c) (rw f))))
     (λ f. zeroth (rw (e, refusalOf) (rw (a, b, c) (rw f)))))
 
-room-right : wrongStores scanStores ≡ false
+pub room-right : wrongStores scanStores ≡ false
 unfolding wrongStores scanStores
 room-right = refl
 

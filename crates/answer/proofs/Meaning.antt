@@ -6,8 +6,8 @@ use mathlib.Core.Path.{_≡_, refl, sym, ap, _∙_}
 use native.Mathlib.Omega.{arith}
 use Rattle.text.specs.Writing.{Writes}
 use Rattle.ic3.specs.Model.{Model}
-use Rattle.ic3.specs.Demands.{Safe, Unsafe}
-use Rattle.system.specs.System.{model}
+use Rattle.ic3.specs.Demands.{Safe, Unsafe, HasStart}
+use Rattle.system.specs.System.{System, model}
 use Rattle.call.specs.Call.{Stores, Said, says-safe, says-unsafe, gives-up, refuses, result, called}
 use Rattle.call.specs.Promise.{Right}
 use Rattle.call.proofs.Call.{Speaks, called-right, called-starts}
@@ -34,7 +34,7 @@ speaks says-unsafe a h t = tt
 speaks gives-up a h t = absurd (omega arith)
 speaks refuses a h t = absurd (omega arith)
 
-refusal-tells : (a number line : ℕ) → Begins a 48 (refusalLine number line) → 65 ≤ a
+pub refusal-tells : (a number line : ℕ) → Begins a 48 (refusalLine number line) → 65 ≤ a
 unfolding refusalLine lineOf digits letter
 refusal-tells a number line h = omega (arith, h .0)
 
@@ -70,6 +70,33 @@ told-unsafe M says-unsafe number questions evidence after t d = (refl, d)
 told-unsafe M gives-up number questions evidence after t d = absurd (omega arith)
 told-unsafe M refuses number questions evidence after t d = absurd (omega arith)
 
+-- Of a system's answer that begins with a verdict's digit: it is that verdict, the system has a start state, and the states in the lines are right.
+pub record Verdict (y : System) (kind : ℕ) (Rightly : Model → List ℕ → Type 0) : Type 0 where
+  pub questions : ℕ
+  pub evidence : List ℕ
+  pub lines : systemLines y ≡ verdictLines kind questions evidence
+  pub start : HasStart (model y)
+  pub right : Rightly (model y) evidence
+
+verdict : (y : System) (a kind : ℕ) (Rightly : Model → List ℕ → Type 0) → a < 65 → Told a kind Rightly → Begins a 48 (systemLines y) → Verdict y kind Rightly
+verdict y a kind Rightly low told h =
+    let c = called y scanStores 1000000 in
+    let t = call-tells a (c .said) _ _ _ _ h in
+    let u = told (model y) (c .said) _ _ (c .evidence) _ t (called-right y scanStores 1000000) in
+    record {
+      questions = c .questions;
+      evidence = c .evidence;
+      lines = u .0;
+      start = called-starts y scanStores 1000000 (speaks (c .said) a low t);
+      right = u .1;
+    }
+
+pub safe-verdict : (y : System) → Begins 56 48 (systemLines y) → Verdict y 128 Safe
+safe-verdict y = verdict y 56 128 Safe (omega arith) told-safe
+
+pub unsafe-verdict : (y : System) → Begins 57 48 (systemLines y) → Verdict y 144 Unsafe
+unsafe-verdict y = verdict y 57 144 Unsafe (omega arith) told-unsafe
+
 module _ (text : List ℕ) where
   pub answered-file : (r : Reading) → said clauseRooms text ≡ file r → answered text ≡ systemLines (systemIn r)
   unfolding answered saidLines
@@ -79,24 +106,22 @@ module _ (text : List ℕ) where
   unfolding answered saidLines
   answered-refused number line e = ap saidLines e
 
-  shows : (a kind : ℕ) (Rightly : Model → List ℕ → Type 0) → a < 65 → Told a kind Rightly → Begins a 48 (answered text) → Shows text kind Rightly
-  shows a kind Rightly low told h = pick (said clauseRooms text) refl
+  shows : (a kind : ℕ) (Rightly : Model → List ℕ → Type 0) → a < 65 → ((y : System) → Begins a 48 (systemLines y) → Verdict y kind Rightly)
+      → Begins a 48 (answered text) → Shows text kind Rightly
+  shows a kind Rightly low tells h = pick (said clauseRooms text) refl
     where
       pick : (s : house.Said) → said clauseRooms text ≡ s → Shows text kind Rightly
       pick (refused number line) e = absurd (omega (arith, low, refusal-tells a number line (rw (answered-refused number line e) at h)))
       pick (file r) e =
-          let y = systemIn r in
-          let c = called y scanStores 1000000 in
-          let t = call-tells a (c .said) _ _ _ _ (rw (answered-file r e) at h) in
-          let u = told (model y) (c .said) _ _ (c .evidence) _ t (called-right y scanStores 1000000) in
+          let v = tells (systemIn r) (rw (answered-file r e) at h) in
           record {
             reading = r;
             read = e;
-            questions = c .questions;
-            evidence = c .evidence;
-            lines = answered-file r e ∙ u .0;
-            start = called-starts y scanStores 1000000 (speaks (c .said) a low t);
-            right = u .1;
+            questions = v .questions;
+            evidence = v .evidence;
+            lines = answered-file r e ∙ v .lines;
+            start = v .start;
+            right = v .right;
           }
 
   -- the promise, out of what was written
@@ -108,6 +133,6 @@ module _ (text : List ℕ) where
         cut = answered-cut text;
         line = refused-line text;
         number = file-number text;
-        safe = shows 56 128 Safe (omega arith) told-safe;
-        unsafe = shows 57 144 Unsafe (omega arith) told-unsafe;
+        safe = shows 56 128 Safe (omega arith) safe-verdict;
+        unsafe = shows 57 144 Unsafe (omega arith) unsafe-verdict;
       }

@@ -4,22 +4,18 @@ use Prim.Native.Nat.{ℕ, _≤_}
 use mathlib.Core.List.{List}
 use mathlib.Core.Path.{_≡_, refl, ap, _∙_}
 use native.Mathlib.Omega.{arith}
-use lib.ListN.{length, take, replicate, length-append, length-replicate}
+use lib.ListN.{length, take, replicate, length-replicate}
 use Rattle.text.specs.Writing.{Writes}
-use Rattle.stores.proofs.Over.{over-front}
-use Rattle.stores.specs.Over.{over}
+use Rattle.stores.proofs.Over.{over-front, over-within}
 use Rattle.system.specs.System.{System, systemOf}
 use Rattle.house.specs.File.{Reading, Said, file, refused, said}
-use Rattle.house.specs.Promise.{Lists, lists, roomsOf, filled, Result, resultOf, Reads}
+use Rattle.stores.specs.Lists.{Lists, lists, filled}
+use Rattle.house.specs.Promise.{roomsOf, Result, resultOf, Reads}
 use Rattle.house.specs.declared.House.{House}
 use Rattle.house.proofs.Limits.{Limited, said-limited}
 use Rattle.answer.specs.Answer.{refusalLine, clauseRooms, systemIn, systemLines}
 use Rattle.answer.specs.Promise.{Answers}
 use Rattle.answer.proofs.Meaning.{answered-file, answered-refused, answers}
-
-over-within : (front store : List ℕ) → length front ≤ length (over front store)
-unfolding over
-over-within front store = simp length-append (omega arith)
 
 -- stores of 4,096 zeros
 pub rooms-of-zeros : roomsOf (lists (replicate 4096 0) (replicate 4096 0) (replicate 4096 0)) ≡ clauseRooms

@@ -5,11 +5,12 @@ use mathlib.Core.List.{List, [], _∷_}
 use mathlib.Core.Path.{_≡_, refl}
 use native.Mathlib.Omega.{arith}
 use lib.ListN.{length, length-append}
+use Rattle.system.specs.System.{System}
 use Rattle.call.specs.Call.{Stores, Said, says-safe, says-unsafe, gives-up, refuses, result}
 use Rattle.call.proofs.Call.{called-evidence}
 use Rattle.house.specs.File.{Said as Read, file, refused, said}
 use Rattle.answer.specs.Output.{one, two, four}
-use Rattle.answer.specs.Answer.{stateLines, verdictLines, gaveUpLine, refusalLine, callLines, scanStores, clauseRooms, systemIn, answered, saidLines}
+use Rattle.answer.specs.Answer.{stateLines, verdictLines, gaveUpLine, refusalLine, callLines, scanStores, systemLines, clauseRooms, systemIn, answered, saidLines}
 use Rattle.answer.proofs.Lines.{line-length}
 
 states-length : (kind : ℕ) (states : List ℕ) → length (stateLines kind states) ≡ 13 * length states
@@ -21,7 +22,7 @@ verdict-short : (kind questions : ℕ) (evidence : List ℕ) → length evidence
 unfolding verdictLines one two four
 verdict-short kind questions evidence h = simp (length-append, line-length, states-length) (omega arith)
 
-refusal-short : (number line : ℕ) → length (refusalLine number line) ≤ 13359
+pub refusal-short : (number line : ℕ) → length (refusalLine number line) ≤ 13359
 unfolding refusalLine one two
 refusal-short number line = simp (line-length) (omega arith)
 
@@ -41,10 +42,13 @@ room-1026 : length (scanStores .states) + 2 ≡ 1026
 unfolding scanStores
 room-1026 = refl
 
+pub system-short : (y : System) → length (systemLines y) ≤ 13359
+system-short y = call-short _ _ _ _ _ (omega (arith, called-evidence y scanStores 1000000, room-1026))
+
 pub answered-short : (text : List ℕ) → length (answered text) ≤ 13359
 unfolding answered saidLines
 answered-short text = pick (said clauseRooms text)
   where
     pick : (s : Read) → length (saidLines s) ≤ 13359
-    pick (file r) = call-short _ _ _ _ _ (omega (arith, called-evidence (systemIn r) scanStores 1000000, room-1026))
+    pick (file r) = system-short (systemIn r)
     pick (refused number line) = refusal-short number line

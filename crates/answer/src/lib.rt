@@ -125,7 +125,7 @@ fn put_gave_up(out: &mut [u8], number: u32, questions: u32) -> usize
 }
 
 // A refusal and its line.
-fn put_refusal(out: &mut [u8], number: u32, line: usize) -> usize
+pub fn put_refusal(out: &mut [u8], number: u32, line: usize) -> usize
     ensures { λ r. ⌜ Writes 0 (refusalLine number line) (now (out .entry)) r (now (out .exit)) ⌝ }
 {
     let k = line as u64;
@@ -169,16 +169,16 @@ fn put_outcome<'a>(
 // Masks of a clause store that holds all clause lines of a file.
 const MASKS: usize = 4 * base::MOST_CLAUSE_LINES as usize;
 
-// The search with no wires, and with the room and the allowance of `scan`, and the lines of its outcome.
-fn solve(n: u32, start: &[u64], step: &[u64], bad: &[u64], out: &mut [u8]) -> usize
-    ensures { λ r. ⌜ Writes 0 (systemLines (systemOf n 0 (now (start .entry)) (now (step .entry)) (now (bad .entry)))) (now (out .entry)) r (now (out .exit)) ⌝ }
+// The search with the room and the allowance of `scan`, and the lines of its outcome.
+pub fn solve(n: u32, w: u32, start: &[u64], step: &[u64], bad: &[u64], out: &mut [u8]) -> usize
+    ensures { λ r. ⌜ Writes 0 (systemLines (systemOf n w (now (start .entry)) (now (step .entry)) (now (bad .entry)))) (now (out .entry)) r (now (out .exit)) ⌝ }
 {
     let mut states = [0u64; base::SCAN_ROOM];
     let mut levels = [0u32; base::SCAN_ROOM];
     let mut path = [0u64; base::SCAN_ROOM + 2];
     let outcome = search::search(
         n,
-        0,
+        w,
         start,
         step,
         bad,
@@ -205,5 +205,5 @@ pub fn answer(text: &[u8], out: &mut [u8]) -> usize
     let i = house.start;
     let t = house.step;
     let b = house.bad;
-    solve(house.n, &start[..i], &step[..t], &bad[..b], out)
+    solve(house.n, 0, &start[..i], &step[..t], &bad[..b], out)
 }

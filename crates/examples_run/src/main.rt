@@ -1,5 +1,5 @@
 // The examples, each answered and held to the answer that the text beside it tells: the lines that begin with four blanks, up to the next blank.
-// The file `args` has the name of each house file and behind it that of its text.
+// The file `args` has the name of each house file or circuit and behind it that of its text. A circuit begins with `aag`.
 ghost use Prim.Native.Nat.{_+_, _^_, _≤_, _<_};
 ghost use lib.ListN.{length};
 use libc::STDOUT_FILENO;
@@ -101,11 +101,36 @@ fn same(a: &[u8], b: &[u8]) -> bool {
     true
 }
 
-// Whether the house file has the answer that its text tells.
-fn as_told(house: &[u8], text: &[u8]) -> bool {
+fn is_circuit(file: &[u8]) -> bool {
+    if file.len() < 3 {
+        return false;
+    }
+    file[0] == 97 && file[1] == 97 && file[2] == 103
+}
+
+fn least(a: usize, b: usize) -> usize
+    ensures { λ r. ⌜ r ≤ b ⌝ }
+{
+    if a < b { a } else { b }
+}
+
+// The answer to a house file or a circuit, and its length as far as there is room.
+fn answer_to(file: &[u8], answer: &mut [u8]) -> usize
+    ensures { λ r. ⌜ r ≤ length (now (answer .exit)) ⌝ }
+{
+    if is_circuit(file) {
+        let length = circuit_answer::answer(file, answer);
+        return least(length, answer.len());
+    }
+    let length = answer::answer(file, answer);
+    least(length, answer.len())
+}
+
+// Whether the file has the answer that its text tells.
+fn as_told(file: &[u8], text: &[u8]) -> bool {
     let mut answer = [0u8; ANSWER];
     let mut told = [0u8; ANSWER];
-    let length = answer::answer(house, &mut answer);
+    let length = answer_to(file, &mut answer);
     let end = tell(text, &mut told);
     same(&answer[..length], &told[..end])
 }
@@ -119,16 +144,16 @@ fn room() -> [u8; FILE] {
 fn example(i: usize)
     requires { ⌜ i + 1 < 2 ^ 64 ⌝ }
 {
-    let mut house_name = [0u8; 64];
+    let mut file_name = [0u8; 64];
     let mut text_name = [0u8; 64];
-    let mut house = room();
+    let mut file = room();
     let mut text = room();
-    let house_end = os::arg(i, &mut house_name);
+    let file_end = os::arg(i, &mut file_name);
     let text_end = os::arg(i + 1, &mut text_name);
-    let house_length = read_file(&house_name[..house_end], &mut house);
+    let file_length = read_file(&file_name[..file_end], &mut file);
     let text_length = read_file(&text_name[..text_end], &mut text);
-    io::write_all(STDOUT_FILENO, &house_name[..house_end]);
-    if as_told(&house[..house_length], &text[..text_length]) {
+    io::write_all(STDOUT_FILENO, &file_name[..file_end]);
+    if as_told(&file[..file_length], &text[..text_length]) {
         io::write_all(STDOUT_FILENO, b": as told\n");
     } else {
         io::write_all(STDOUT_FILENO, b": not as told\n");

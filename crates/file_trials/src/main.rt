@@ -1,16 +1,30 @@
-// House files, well-formed and damaged, given to `answer`, whose answers are written one after the other. The texts come on standard input, in pieces:
+// House files and circuits, well-formed and damaged, and what is answered, written one after the other. The texts come on standard input, in pieces:
 // two bytes for how often a piece is repeated and two for its length, the high byte first, then the piece. A piece that is repeated no times ends a
-// text. The files `stdin` and `stdout` are from `expected.py`, which reads and answers the texts from the scope alone.
+// text, and its length says what the text is given to: 0 `answer::answer`, 1 `circuit_answer::answer`, 2 `aiger::import`; behind a 2 the lengths of
+// three clause stores follow, two bytes each. The files `stdin` and `stdout` are from `expected.py`, which reads and answers the texts from the scope
+// alone.
+ghost use Prim.Native.Nat.{_≤_};
 
 // How many pieces may come. There are fewer.
 const PIECES: u32 = 100000;
 
 // The longest text, and the longest piece.
-const TEXT: usize = 65536;
+const TEXT: usize = 100000;
 
 const PIECE: usize = 65536;
 
 const ANSWER: usize = 13359;
+
+// Numbers of a whole store, of which the front is lent.
+const STORE: usize = 1100;
+
+// What stands in a store before, its index added: nowhere 0.
+const FILL: u64 = 0xA5C3_0000_0000_0000;
+
+// Two primes.
+const P: u64 = 2147483629;
+
+const Q: u64 = 2147483587;
 
 // Two bytes, the high one first.
 fn number(high: u8, low: u8) -> usize {
@@ -72,13 +86,128 @@ fn take_piece(text: &mut [u8], at: usize, length: usize, times: usize) -> usize 
 fn write_answer(text: &[u8]) {
     let mut output = [0u8; ANSWER];
     let length = answer::answer(text, &mut output);
-    io::write_all(1, &output[..length]);
+    io::write_all(1, front(&output, length));
 }
 
-// A piece is taken in, or the text has ended and is answered; where the text then ends.
+fn write_circuit_answer(text: &[u8]) {
+    let mut output = [0u8; ANSWER];
+    let length = circuit_answer::answer(text, &mut output);
+    io::write_all(1, front(&output, length));
+}
+
+fn filled() -> [u64; STORE] {
+    let mut store = [0u64; STORE];
+    let mut j = 0;
+    while j < STORE {
+        store[j] = FILL + j as u64;
+        j += 1;
+    }
+    store
+}
+
+// Two sums over a store, which tell its content.
+struct Sums {
+    p: u64,
+    q: u64,
+}
+
+fn with(s: Sums, x: u64) -> Sums {
+    Sums {
+        p: (s.p % P * 65599 + x % P) % P,
+        q: (s.q % Q * 65599 + x % Q) % Q,
+    }
+}
+
+fn sum_up(store: &[u64]) -> Sums {
+    let mut s = Sums { p: 0, q: 0 };
+    let mut j = 0;
+    while j < store.len() {
+        s = with(s, store[j]);
+        j += 1;
+    }
+    s
+}
+
+fn write_next(x: u64) {
+    io::write_all(1, b" ");
+    io::print_decimal(1, x);
+}
+
+fn write_sums(store: &[u64]) {
+    let s = sum_up(store);
+    write_next(s.p);
+    write_next(s.q);
+}
+
+fn write_imported(r: aiger::Imported) {
+    io::print_decimal(1, r.number as u64);
+    write_next(r.line as u64);
+    write_next(r.n as u64);
+    write_next(r.w as u64);
+    write_next(r.start as u64);
+    write_next(r.step as u64);
+    write_next(r.bad as u64);
+}
+
+fn least(a: usize, b: usize) -> usize
+    ensures { λ r. ⌜ r ≤ b ⌝ }
+{
+    if a < b { a } else { b }
+}
+
+// An import with so much of each store.
+fn import_fronts(
+    text: &[u8],
+    start: &mut [u64],
+    step: &mut [u64],
+    bad: &mut [u64],
+    a: usize,
+    b: usize,
+    c: usize,
+) -> aiger::Imported {
+    let a = least(a, start.len());
+    let b = least(b, step.len());
+    let c = least(c, bad.len());
+    aiger::import(text, &mut start[..a], &mut step[..b], &mut bad[..c])
+}
+
+// The text is imported into stores of these lengths: one line of what is answered, and of the whole stores then.
+fn write_import(text: &[u8], a: usize, b: usize, c: usize) {
+    let mut start = filled();
+    let mut step = filled();
+    let mut bad = filled();
+    let r = import_fronts(text, &mut start, &mut step, &mut bad, a, b, c);
+    write_imported(r);
+    write_sums(&start);
+    write_sums(&step);
+    write_sums(&bad);
+    io::write_all(1, b"\n");
+}
+
+// The lengths are read.
+fn take_import(text: &[u8]) {
+    let mut six = [0u8; 6];
+    io::read_full(0, &mut six);
+    write_import(
+        text,
+        number(six[0], six[1]),
+        number(six[2], six[3]),
+        number(six[4], six[5]),
+    );
+}
+
+fn give(text: &[u8], to: usize) {
+    match to {
+        0 => write_answer(text),
+        1 => write_circuit_answer(text),
+        _ => take_import(text),
+    }
+}
+
+// A piece is taken in, or the text has ended and is given to what the length says; where the text then ends.
 fn turn(text: &mut [u8], end: usize, length: usize, times: usize) -> usize {
     if times == 0 {
-        write_answer(front(text, end));
+        give(front(text, end), length);
         return 0;
     }
     take_piece(text, end, length, times)

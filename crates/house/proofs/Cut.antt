@@ -1,89 +1,19 @@
 -- What stands behind the first 37,999 bytes of a text does not matter: 1,027 lines can be taken or refused, and a line of more than 37 bytes is refused with
 -- 8, whole or cut off. By the lines that can still be taken. Assumes nothing.
 use Prim.Native.Nat.{ℕ, zero, suc, _+_, _-_, _*_, _≤_, _<_}
-use mathlib.Core.Bool.{false}
 use mathlib.Core.List.{List, [], _∷_}
 use mathlib.Core.Path.{_≡_, refl, ap}
 use native.Mathlib.Omega.{arith}
-use borrow.Author.Tests.{eqb-false, ltb-true, ltb-false}
-use lib.Dec.{eqb, ltb}
-use lib.ListN.{length, getD, take}
+use borrow.Author.Tests.{ltb-true, ltb-false}
+use lib.Dec.{ltb}
+use lib.ListN.{length, take}
 use Rattle.base.proofs.Tests.{test}
-use Rattle.text.specs.Lines.{before, lines}
+use Rattle.text.specs.Lines.{lines}
+use Rattle.text.proofs.Cut.{Feedless, First, take-none, first-line}
 use Rattle.line.proofs.Frames.{form}
 use Rattle.line.proofs.Malformed.{malformed}
 use Rattle.house.specs.File.{Rooms, Reading, Taken, on, refuse, takenAs, lineTaken, readLines, nothing, said}
 use Rattle.house.proofs.Limits.{left, Onward, line-onward}
-
--- no byte is a line feed
-abbrev Feedless : List ℕ → Type 0
-Feedless l = (j : ℕ) → j < length l → getD l j 0 ≡ 10 → ⊥
-
--- The first line of a text, and what is left of both if the text is cut off behind `most` bytes.
-record First (text : List ℕ) : Type 0 where
-  line : List ℕ
-  rest : List ℕ
-  first : lines text ≡ line ∷ lines rest
-  within : (most more : ℕ) → most ≡ length line + more → lines (take most text) ≡ line ∷ lines (take more rest)
-  beyond : (most : ℕ) → 0 < most → most < length line → (lines (take most text) ≡ take most line ∷ []) × Feedless (take most line)
-
-take-none : (n : ℕ) → take {A = ℕ} n [] ≡ []
-take-none zero = refl
-take-none (suc n) = refl
-
--- one byte
-first-one : (b : ℕ) (bs : List ℕ) → lines (b ∷ bs) ≡ (b ∷ []) ∷ lines bs → ((n : ℕ) → lines (b ∷ take n bs) ≡ (b ∷ []) ∷ lines (take n bs)) → First (b ∷ bs)
-first-one b bs e cut =
-    record {
-      line = b ∷ [];
-      rest = bs;
-      first = e;
-      within = within;
-      beyond = λ most h g. absurd (omega arith);
-    }
-  where
-    within : (most more : ℕ) → most ≡ 1 + more → lines (take most (b ∷ bs)) ≡ (b ∷ []) ∷ lines (take more bs)
-    within zero more h = absurd (omega arith)
-    within (suc n) more h = let e : n ≡ more = omega arith in rw (← e) (cut n)
-
--- a byte that is no line feed, in front of a line
-first-more : (b : ℕ) (bs : List ℕ) → eqb b 10 ≡ false → First bs → First (b ∷ bs)
-unfolding lines before
-first-more b bs e w =
-    record {
-      line = b ∷ w .line;
-      rest = w .rest;
-      first = rw (e, lines) (rw (w .first, before));
-      within = within;
-      beyond = beyond;
-    }
-  where
-    within : (most more : ℕ) → most ≡ suc (length (w .line)) + more → lines (take most (b ∷ bs)) ≡ (b ∷ w .line) ∷ lines (take more (w .rest))
-    within zero more h = absurd (omega arith)
-    within (suc n) more h = rw (e, lines) (rw (w .within n more (omega arith), before))
-
-    feedless : (l : List ℕ) → Feedless l → Feedless (b ∷ l)
-    feedless l f zero h g = eqb-false b 10 e g
-    feedless l f (suc j) h g = f j (omega arith) g
-
-    beyond : (most : ℕ) → 0 < most → most < suc (length (w .line))
-        → (lines (take most (b ∷ bs)) ≡ take most (b ∷ w .line) ∷ []) × Feedless (take most (b ∷ w .line))
-    beyond zero h g = absurd (omega arith)
-    beyond (suc zero) h g = (rw (e, lines), feedless [] (λ j k. absurd (omega arith)))
-    beyond (suc (suc n)) h g =
-        let c = w .beyond (suc n) (omega arith) (omega arith) in
-        (rw (e, lines) (rw (c .0, before)), feedless (take (suc n) (w .line)) (c .1))
-
-first-line : (b : ℕ) (bs : List ℕ) → First (b ∷ bs)
-unfolding lines before
-first-line b [] =
-    test (eqb b 10)
-    (λ e. first-one b [] (rw (e, lines)) (λ n. rw (take-none n) (rw (e, lines))))
-    (λ e. first-one b [] (rw (e, lines)) (λ n. rw (take-none n) (rw (e, lines))))
-first-line b (c ∷ bs) =
-    test (eqb b 10)
-    (λ e. first-one b (c ∷ bs) (rw (e, lines)) (λ n. rw (e, lines)))
-    (λ e. first-more b (c ∷ bs) e (first-line c bs))
 
 module _ (rooms : Rooms) where
   -- lines that are refused with 8

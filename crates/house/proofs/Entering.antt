@@ -12,7 +12,8 @@ use Rattle.stores.specs.Lies.{Lies}
 use Rattle.line.specs.declared.Line.{Line}
 use Rattle.line.specs.declared.Line.the-variants.{Size, Clause, Count, Wrong}
 use Rattle.house.specs.File.{on, refuse, clauseOf, roomFor, withClause, takenAs}
-use Rattle.house.specs.Promise.{Lists, lists, roomsOf}
+use Rattle.stores.specs.Lists.{Lists, lists}
+use Rattle.house.specs.Promise.{roomsOf}
 use Rattle.house.specs.Contracts.{PutAs, Lie, readingOf, oneMore, Same, Leads, Enters}
 use Rattle.house.specs.declared.enter.Reading.{Reading}
 use Rattle.house.specs.declared.enter.Taken.the-variants.{On, Refused}

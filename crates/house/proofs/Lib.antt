@@ -5,4 +5,3 @@ pub mod Limits
 pub mod Taking
 pub mod Reading
 pub mod Cut
-pub mod Lending

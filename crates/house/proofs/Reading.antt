@@ -8,7 +8,8 @@ use lib.ListN.{length, replicate}
 use Rattle.stores.proofs.Over.{over-length, over-none}
 use Rattle.stores.specs.Over.{over}
 use Rattle.house.specs.File.{Said, file, refused, said}
-use Rattle.house.specs.Promise.{Lists, lists, roomsOf, filled, Result, resultOf, Reads}
+use Rattle.stores.specs.Lists.{Lists, lists, filled}
+use Rattle.house.specs.Promise.{roomsOf, Result, resultOf, Reads}
 use Rattle.house.specs.Contracts.{Lie, Same, Took}
 use Rattle.house.specs.declared.House.{House}
 use Rattle.stores.proofs.Lying.{lies-none}

@@ -1,7 +1,7 @@
 -- Line after line. What is left of the text, from where reading stands, says what the whole text says, until a line is refused or the text ends.
 -- Assumes nothing.
 use Prim.Native.Nat.{ℕ, suc, _+_, _-_, _<_}
-use mathlib.Core.Bool.{true, false}
+use mathlib.Core.Bool.{false}
 use mathlib.Core.List.{List, [], _∷_}
 use mathlib.Core.Logic.{⊎-elim}
 use mathlib.Core.Path.{_≡_, refl, sym, _∙_}
@@ -19,7 +19,8 @@ use Rattle.line.specs.Says.{says}
 use Rattle.line.specs.declared.Line.{Line}
 use Rattle.house.specs.File.{Rooms, on, refuse, lineTaken, Said, file, refused, readLines, said}
 use Rattle.house.specs.File as file
-use Rattle.house.specs.Promise.{Lists, lists, roomsOf, filled, resultOf}
+use Rattle.stores.specs.Lists.{Lists, lists, filled}
+use Rattle.house.specs.Promise.{roomsOf, resultOf}
 use Rattle.house.specs.Contracts.{Lie, readingOf, Same, Enters, Takes, begun, saidFrom, Stands, GoesOn, Turned, Ended, refusedAt, houseOf, Took}
 use Rattle.house.specs.declared.enter.Reading.{Reading}
 use Rattle.house.specs.declared.Progress.{Progress}

@@ -12,7 +12,8 @@ use Rattle.text.specs.Lines.{lines, lineLength, LineAt}
 use Rattle.line.specs.declared.Line.{Line}
 use Rattle.house.specs.File.{clauseOf, takenAs, lineTaken, on, refuse, Said, refused, readLines, said}
 use Rattle.house.specs.File as file
-use Rattle.house.specs.Promise.{Lists, roomsOf, resultOf}
+use Rattle.stores.specs.Lists.{Lists}
+use Rattle.house.specs.Promise.{roomsOf, resultOf}
 use Rattle.house.specs.declared.House.{House}
 use Rattle.house.specs.declared.enter.Reading.{Reading}
 use Rattle.house.specs.declared.Progress.{Progress}

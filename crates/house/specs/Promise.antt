@@ -3,25 +3,12 @@ use Prim.Native.Nat.{ℕ}
 use mathlib.Core.List.{List, []}
 use mathlib.Core.Path.{_≡_}
 use lib.ListN.{length}
-use Rattle.stores.specs.Over.{over}
+use Rattle.stores.specs.Lists.{Lists, filled}
 use Rattle.house.specs.File.{Rooms, Said, file, refused, said}
 use Rattle.house.specs.declared.House.{House}
 
--- the lent clause stores
-pub record Lists : Type 0 where
-  pub start : List ℕ
-  pub step : List ℕ
-  pub bad : List ℕ
-
-abbrev pub lists : List ℕ → List ℕ → List ℕ → Lists
-lists start step bad = record { start = start; step = step; bad = bad }
-
 abbrev pub roomsOf : Lists → Rooms
 roomsOf l = record { start = length (l .start); step = length (l .step); bad = length (l .bad) }
-
--- the lists in front of the stores, and everything behind each list is zero
-unfoldable pub filled : Lists → List ℕ → List ℕ → List ℕ → Lists
-filled l start step bad = lists (over start (l .start)) (over step (l .step)) (over bad (l .bad))
 
 -- n and the counts of masks with the number 0 and no line; or a refusal and its line, with nothing else
 pub record Result : Type 0 where

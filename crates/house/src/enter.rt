@@ -5,7 +5,7 @@
 ghost use mathlib.Core.Path.{_≡_};
 ghost use lib.ListN.{take, drop};
 ghost use Rattle.stores.specs.Lies.{Lies};
-ghost use Rattle.house.specs.Promise.{lists};
+ghost use Rattle.stores.specs.Lists.{lists};
 ghost use Rattle.house.specs.Contracts.{PutAs, Lie, Ready, oneMore, Enters, Takes};
 ghost use Rattle.line.specs.declared.Line.the-variants.{Clause};
 use line::Line;

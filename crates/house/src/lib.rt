@@ -6,7 +6,8 @@ mod enter;
 
 ghost use mathlib.Core.Path.{_≡_};
 ghost use mathlib.Core.List.{[]};
-ghost use Rattle.house.specs.Promise.{lists, filled, Reads};
+ghost use Rattle.stores.specs.Lists.{lists, filled};
+ghost use Rattle.house.specs.Promise.{Reads};
 ghost use Rattle.house.specs.Contracts.{Lie, begun, Stands, GoesOn, Turned, Ended, refusedAt, houseOf, Took};
 use enter::Reading;
 use enter::Taken;

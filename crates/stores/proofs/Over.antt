@@ -24,6 +24,11 @@ pub over-front : (k : ℕ) (front store : List ℕ) → length front ≡ k → t
 unfolding over
 over-front k front store e = take-at front _ k e
 
+-- and within it
+pub over-within : (front store : List ℕ) → length front ≤ length (over front store)
+unfolding over
+over-within front store = simp length-append (omega arith)
+
 -- a store that was cleared behind its first k numbers
 pub over-take : (k : ℕ) (store : List ℕ) → k ≤ length store → take k store ++ replicate (length store - k) 0 ≡ over (take k store) store
 unfolding over

@@ -6,7 +6,7 @@ use Rattle.file_trials.proofs.main.Statement.{statement}
 use Rattle.file_trials.proofs.main.Tie as tie
 
 abbrev Inv-loop : tie.InvT-loop
-Inv-loop text₀ end₀ left₀ text end left = length text ≡ 65536
+Inv-loop text₀ end₀ left₀ text end left = length text ≡ 100000
 
 abbrev μ-loop : tie.MeasureT-loop
 μ-loop text₀ end₀ left₀ text end left = left

@@ -60,12 +60,12 @@ use Rattle.text.proofs.new.Met as new-thm
 use Rattle.text.proofs.next_line.Symbol as next-line-def
 use Rattle.text.proofs.next_line.Symbol.{name as #text·next-line}
 use Rattle.text.proofs.next_line.Met as next-line-thm
-use Rattle.house.specs.Promise.{Lists, lists}
+use Rattle.stores.specs.Lists.{Lists, lists}
 use Rattle.house.specs.Contracts.{Same, Stands, Turned}
 use Rattle.house.specs.declared.Progress.{Progress}
 use Rattle.house.proofs.Entering.{same-refl}
 use Rattle.house.proofs.Taking.{same-then, ended}
-use Rattle.house.proofs.Lending.{Store, lying, Held, Loan, lent, returned, pairs, unpairs, lasted}
+use Rattle.text.proofs.Lending.{Store, lying, Held, Loan, lent, returned, pairs, unpairs, lasted}
 use Rattle.house.proofs.Progress as P
 use Rattle.house.proofs.Progress.Laws as P′
 use Rattle.house.proofs.take_turn as take-turn

@@ -1,4 +1,4 @@
--- The clause stores in a walk by hand. A store is held: a share of the token of its lifetime, and the slice with the list that it has now, at the
+-- Lent stores in a walk by hand. A store is held: a share of the token of its lifetime, and the slice with the list that it has now, at the
 -- machine value that was passed. For a call it is lent for a lifetime of its own, and comes back with the list that the call left. Assumes nothing.
 use Prim.Native.Nat.{ℕ}
 use mathlib.Core.List.{List, [], _∷_}

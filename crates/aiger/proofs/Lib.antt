@@ -1,0 +1,19 @@
+-- The root of the laws.
+pub mod Threes
+pub mod Numbering
+pub mod Rows
+pub mod Parting
+pub mod Telling
+pub mod Cut
+pub mod Slices
+pub mod Finding
+pub mod Settling
+pub mod Placing
+pub mod Writing
+pub mod Entering
+pub mod Watching
+pub mod Judging
+pub mod Listing
+pub mod Keeping
+pub mod First
+pub mod Meaning
