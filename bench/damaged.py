@@ -4,9 +4,10 @@ Each text is one of the files with one to four random changes: a byte changed, a
 a digit changed with its line's sum repaired. An answer is lost if the program ends with a signal or a status, takes over ten seconds, or writes
 anything but whole frames with right sums whose first says how many follow.
 
-In circuits, files that begin with `aag`, lines are swapped, numbers changed, and lines left out or repeated with the header's count repaired; half of
-the texts have changes of the last two kinds alone, so that more lines keep their form. An answer is wrong if it is not that of the independent reader
-and search of the trials: the refusal and its line, or where all states and inputs can be walked, the verdict with its evidence.
+In circuits, files that begin with `aag`, of either edition, lines are swapped, numbers changed or added, and lines left out or repeated with the
+header's count repaired; half of the texts have changes of the last two kinds alone, so that more lines keep their form. An answer is wrong if it is
+not that of the independent reader and search of the trials: the refusal and its line, or where all states and inputs can be walked, the verdict with
+its evidence.
 """
 import collections
 import os
@@ -58,30 +59,33 @@ def damaged(text):
 
 
 def renumbered(text):
-    """The text with another number in place of one."""
+    """The text with another number in place of one, or behind it: a start value, or one count more."""
     numbers = list(re.finditer(rb"\d+", text))
     if not numbers:
         return text
     one, other = random.choice(numbers), random.choice(numbers)
     value = int(one[0][:12])
     value = random.choice((int(other[0][:12]), value ^ 1, value + 1, max(0, value - 2), 0, 1, 1 << 32))
-    return text[: one.start()] + b"%d" % value + text[one.end() :]
+    kept = one[0] + b" " if random.random() < 0.1 else b""
+    return text[: one.start()] + kept + b"%d" % value + text[one.end() :]
 
 
 def recounted(text):
     """The text without a line of a part, or with more of it, and as many in the header; M may be raised as well."""
     head, *lines = text.split(b"\n")
-    if not re.fullmatch(rb"aag( \d{1,9}){5}", head):
+    if not re.fullmatch(rb"aag( \d{1,9}){5,9}", head):
         return text
     m, *counts = map(int, head.split()[1:])
-    part, times = random.randrange(4), random.choice((0, 2, 3, 70))
-    at = sum(counts[:part])
+    # bad-state lines and constraints stand before the gates
+    parts = [k for k in (0, 1, 2, 4, 5, 3) if k < len(counts)]
+    place, times = random.randrange(len(parts)), random.choice((0, 2, 3, 70))
+    part, at = parts[place], sum(counts[k] for k in parts[:place])
     if counts[part] == 0 or len(lines) <= at:
         return text
     lines[at : at + 1] = lines[at : at + 1] * times
     counts[part] += times - 1
     m += random.choice((0, 70))
-    return b"aag %d %d %d %d %d\n" % (m, *counts) + b"\n".join(lines)
+    return b"\n".join([b"aag " + b" ".join(b"%d" % x for x in [m, *counts]), *lines])
 
 
 def damaged_circuit(text):

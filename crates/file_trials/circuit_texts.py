@@ -1,5 +1,5 @@
-"""The circuits of the trials, well-formed and damaged: each text as pieces, how often and what, and the lengths of the stores that it is imported
-into, or None if it is answered."""
+"""The circuits of the first edition, well-formed and damaged: each text as pieces, how often and what, and the lengths of the stores that it is
+imported into, or None if it is answered. `newer_texts.py` makes those of the newer edition of what is here."""
 import itertools
 import random
 import re
@@ -62,24 +62,24 @@ class Builder:
         return text_of(self.m, self.inputs, [list(x) for x in zip(self.latches, nexts)], outputs, self.gates)
 
 
-def some_gates(latches, inputs, gates):
+def some_gates(latches, inputs, gates, make=Builder):
     """Gates of anything."""
-    b = Builder(latches, inputs, gates)
+    b = make(latches, inputs, gates)
     for _ in range(gates):
         b.gate(b.any(), b.any())
     outs = [g[0] for g in b.gates] or b.latches
     return b.text([b.any(outs, b.latches, b.inputs or b.latches) for _ in b.latches], [b.any(outs) for _ in range(random.choice((1, 1, 1, 2, 3, 6)))])
 
 
-def free_gates():
+def free_gates(make):
     gates = random.choice((0, 1, 2, 2, 2, 3, 3, 3, 3, 4, 4, 5, 6, 7, 12))
-    return some_gates(random.choice((1, 2, 2, 2, 3, 3, 4, 6)), random.choice((0, 0, 1, 1, 1, 2, 3, 6)), gates)
+    return some_gates(random.choice((1, 2, 2, 2, 3, 3, 4, 6)), random.choice((0, 0, 1, 1, 1, 2, 3, 6)), gates, make)
 
 
-def register():
+def register(make):
     """Latches that take each other's values, one of them a gate's, and outputs that are 1 in few states."""
     n = random.choice((2, 2, 3, 3, 4, 5, 6))
-    b = Builder(n, random.choice((0, 0, 1, 2)), n + 2)
+    b = make(n, random.choice((0, 0, 1, 2)), n + 2)
     order = random.sample(b.latches, n) if random.random() < 0.3 else b.latches[1:] + b.latches[:1]
     nexts = [l ^ random.choice((0, 0, 0, 1)) for l in order]
     if b.inputs:
@@ -89,10 +89,10 @@ def register():
     return b.text(nexts, [output, b.gate(b.any(), b.any())][: random.choice((1, 1, 2))])
 
 
-def counter():
+def counter(make):
     """A counter of two or three bits that an input enables, with a literal or two changed; the output is one of its values."""
     n = random.choice((2, 2, 2, 2, 3))
-    b = Builder(n, random.choice((1, 1, 2)), 5 * n - 1)
+    b = make(n, random.choice((1, 1, 2)), 5 * n - 1)
     carry, nexts = b.any(b.inputs) if random.random() < 0.8 else 1, []
     for l in b.latches:
         nexts.append(b.differ(l, carry))
@@ -120,9 +120,9 @@ def dull(said):
     return said[:2] == b"90" and said.count(b"\n") == 2 or said[:2] == b"80" and int(said[2:10], 16) < 5
 
 
-def well_formed(count):
+def well_formed(count, make=Builder):
     while count:
-        text = random.choice((free_gates,) * 5 + (register,) * 3 + (counter,))()
+        text = random.choice((free_gates,) * 5 + (register,) * 3 + (counter,))(make)
         if dull(answer(text)) and random.random() < 0.8:
             continue
         count -= 1
@@ -134,33 +134,37 @@ def well_formed(count):
 # ---- damaged texts
 
 
-def spoiled():
-    """The text cut off at every byte, also where parts are missing, and each byte changed or left out, or another before it."""
+def cut():
+    """Texts cut off at every byte, also where parts are missing."""
     for text in b"aag 1 0 1 1 0\n2 3\n3\n", b"aag 1 0 1 0 0\n2 3\n", b"aag 1 1 0 0 0\n2\n", b"aag 0 0 0 1 0\n1\n", b"aag 0 0 0 0 0\n":
         for i in range(len(text)):
             yield text[: len(text) - i]
-    for i in range(len(SMALL)):
+
+
+def spoiled(text=SMALL):
+    """The text cut off at every byte, and each byte changed or left out, or another before it."""
+    for i in range(len(text)):
         for b in FEW:
-            yield SMALL[:i] + bytes([b]) + SMALL[i + 1 :]
-        yield SMALL[:i] + SMALL[i + 1 :]
-        yield SMALL[:i]
+            yield text[:i] + bytes([b]) + text[i + 1 :]
+        yield text[:i] + text[i + 1 :]
+        yield text[:i]
         for b in b" \n\r0":
-            yield SMALL[:i] + bytes([b]) + SMALL[i:]
+            yield text[:i] + bytes([b]) + text[i:]
 
 
-def renumbered():
+def renumbered(small=SMALL, pairs=PAIRS):
     """Each number changed to others."""
     large = [(1 << 32) - 1, 1 << 32, (1 << 32) + 2, 1 << 33, 1 << 64, (1 << 64) + 2, 10**40, 4000000000]
     odd = ["00", "02", "0" * 20 + "4", "04294967296", "-2", "+2", "2.0", "0x2", "", "2 ", " 2"]
-    for text, others in (SMALL, [*range(10), *large, *odd]), (PAIRS, [*range(20), 4294967296, "08"]):
+    for text, others in (small, [*range(10), *large, *odd]), (pairs, [*range(20), 4294967296, "08"]):
         for number in re.finditer(rb"\d+", text):
             for other in others:
                 yield text[: number.start()] + str(other).encode() + text[number.end() :]
 
 
-def relined():
+def relined(*texts):
     """Lines left out, doubled, swapped, shortened and lengthened, with other signs between their numbers, and other lines between them."""
-    for text in SMALL, PAIRS:
+    for text in texts:
         lines = lines_of(text)
         for k, line in enumerate(lines):
             front, back = b"".join(lines[:k]), b"".join(lines[k + 1 :])
@@ -276,8 +280,9 @@ def circles():
             yield text_of(65, [], [[2, outs[0]]], [outs[0]], rows)
 
 
-def breaks(rules, many):
-    """A text that breaks all these rules: of 22 by no latch or by 33; of 24 by a variable that stands twice, or by one that is not defined."""
+def broken(rules, many):
+    """M and the literals of a circuit that breaks all these rules: of 22 by no latch or by 33; of 24 by a variable that stands twice, or by one that
+    is not defined."""
     m, inputs, latches, outputs, gates = circuit(33 if 22 in rules and many else 0 if 22 in rules else 2, 66 if 23 in rules else 2, 2)
     if 25 in rules:
         gates[1][2] = gates[1][0]
@@ -291,7 +296,11 @@ def breaks(rules, many):
     if 21 in rules:
         m = len(inputs) + len(latches) + len(gates) - 1
         inputs, latches, outputs, gates = squeezed(m, inputs, latches, outputs, gates)
-    text = text_of(m, inputs, latches, outputs, gates)
+    return m, inputs, latches, outputs, gates
+
+
+def breaks(rules, many):
+    text = text_of(*broken(rules, many))
     return text[:-1] if 20 in rules else text
 
 
@@ -310,21 +319,26 @@ def orders():
             yield breaks(rules[k : k + 1], many), [STORE] * 3 if rules[k] < 32 else [3, 3, 3]
 
 
-def lengths():
+def exact_lengths(text, newer):
+    return [len(x) for x in masks(read(text, newer))]
+
+
+def lengths(texts, make=Builder):
     """32: each store a mask short, exact and longer."""
-    for text in SMALL, PAIRS, text_of(*circuit(3, 0, 0)), text_of(*circuit(5, 2, 7)):
-        exact = [len(x) for x in masks(read(text))]
+    newer = make is not Builder
+    for text in texts:
+        exact = exact_lengths(text, newer)
         for change in itertools.product((-1, 0, 1), repeat=3):
-            yield text, [a + b for a, b in zip(exact, change)]
+            yield text, [max(0, a + b) for a, b in zip(exact, change)]
         for k in range(3):
-            for other in 0, exact[k] - 4, exact[k] + 4, STORE:
+            for other in 0, max(0, exact[k] - 4), exact[k] + 4, STORE:
                 yield text, [other if j == k else a for j, a in enumerate(exact)]
         yield text, [0, 0, 0]
     # the largest circuits, another each time
     for k, change in enumerate(((0, 0, 0), (-1, 0, 0), (0, -1, 0), (0, 0, -1), (9, 9, 9)) * 3):
         inputs = (0, 64, 1, 63, 30)[k % 5]
-        text = some_gates(32, inputs, 64 - inputs)
-        yield text, [len(x) + b for x, b in zip(masks(read(text)), change)]
+        text = some_gates(32, inputs, 64 - inputs, make)
+        yield text, [max(0, a + b) for a, b in zip(exact_lengths(text, newer), change)]
 
 
 def shaken(text):
@@ -397,10 +411,11 @@ def texts():
     yield [(1, text_of(m, inputs, latches, [0, 0], gates))], None
     shakes = (shaken(text) for text in well_formed(400))
     # some are the same
-    damaged = dict.fromkeys(itertools.chain(spoiled(), renumbered(), relined(), headers(), sizes(), twice_or_not(), circles(), shakes))
+    several = cut(), spoiled(), renumbered(), relined(SMALL, PAIRS), headers(), sizes(), twice_or_not(), circles(), shakes
+    damaged = dict.fromkeys(itertools.chain(*several))
     for k, text in enumerate(damaged):
         yield [(1, text)], lent() if k % 3 == 0 or not answer(text) else None
-    for text, stores in itertools.chain(orders(), lengths()):
+    for text, stores in itertools.chain(orders(), lengths([SMALL, PAIRS, text_of(*circuit(3, 0, 0)), text_of(*circuit(5, 2, 7))])):
         yield [(1, text)], stores
     for text in dict.fromkeys(text for text, _ in orders()):
         yield [(1, text)], None

@@ -2,7 +2,7 @@
 """Writes the texts of the trials and the answers that the scope gives them: `stdin` and `stdout` beside this file.
 
 Here are the house files: their answers come from a reader of lines, the states of which a list is true, and the search as the scope tells it. Behind
-them come the circuits of `circuit_texts.py`, answered by `circuits.py`.
+them come the circuits of `circuit_texts.py` and of `newer_texts.py`, answered by `circuits.py`.
 """
 import os
 import random
@@ -11,6 +11,7 @@ import sys
 sys.dont_write_bytecode = True
 import circuit_texts
 import circuits
+import newer_texts
 from frames import frame, refused, searched
 
 LENGTHS = {0x00: 3, 0x01: 10, 0x02: 18, 0x03: 10, 0x0F: 4}
@@ -210,21 +211,29 @@ def texts():
     yield [(1, file(11, [(0, 1 << p) for p in range(11)], [(0, 0)], [(0x7FF, 0)]))]
 
 
+def all_circuits():
+    """The first edition's, answered and imported; those that are imported once more by the newer reader; the newer edition's."""
+    again = []
+    for pieces, stores in circuit_texts.texts():
+        yield pieces, 2 if stores else 1, stores or ()
+        if stores:
+            again.append((pieces, 3, stores))
+    yield from again
+    yield from newer_texts.texts()
+
+
 def all_texts():
     """Each text with the number of what it is given to, the lengths of stores, and what is to be written."""
     for pieces in texts():
         yield pieces, 0, (), answer
-    for pieces, stores in circuit_texts.texts():
-        if stores:
-            yield pieces, 2, stores, lambda text: circuits.imported(text, stores)
-        else:
-            yield pieces, 1, (), circuits.answer
+    for pieces, to, stores in all_circuits():
+        yield pieces, to, stores, circuits.answer if to == 1 else lambda text: circuits.imported(text, stores, to == 3)
 
 
 def kind(to, said):
     """What is counted: a verdict, or a number behind what was given up or refused."""
-    if to == 2:
-        return "import " + said.split()[0].decode()
+    if to > 1:
+        return ("import ", "newer import ")[to - 2] + said.split()[0].decode()
     return ("house ", "circuit ")[to] + said[: 4 if said[:2] in (b"A0", b"F0") else 2].decode()
 
 

@@ -1,134 +1,61 @@
 -- What was read, judged: the rows are the circuit's variables in their order, so the tests that are made on rows are the circuit's, and the lists
 -- that are entered are its system's. Assumes nothing.
 use Prim.Native.Nat.{ℕ, zero, suc, _+_, _-_, _*_, _≤_}
-use mathlib.Core.Bool.{Bool, true, false, not, _&&_, _||_, and-true}
-use mathlib.Core.List.{List, [], _∷_, _++_, map, append-assoc}
+use mathlib.Core.Bool.{Bool, true, false, not, _&&_, _||_}
+use mathlib.Core.List.{List, _++_, map, append-assoc}
+use mathlib.Core.Logic.{_⊎_, inl, inr, ⊎-elim}
 use mathlib.Core.Path.{_≡_, refl, sym, ap, ap₂, _∙_}
-use native.Mathlib.Nat.{add-zero}
+use native.Mathlib.Nat.{eq-zero-or-pos}
 use native.Mathlib.Omega.{arith}
-use borrow.Author.Tests.{ltb-false, le-ltb, eqb-true, eq-eqb, ne-eqb}
+use borrow.Author.Tests.{ltb-false}
 use lib.Dec.{eqb, ltb}
-use lib.ListN.{length, take, drop, length-append}
-use lib.Seq.{take-at, drop-at}
+use lib.ListN.{length, take, drop, length-append, length-drop, take-append-drop}
+use lib.Seq.{length-take-le, take-at, drop-at, drop-drop}
 use Rattle.base.specs.Refusals.{_if_, _else_, mostClauses}
-use Rattle.base.proofs.Tests.{both}
 use Rattle.base.proofs.Refusals.{else-none, if-none}
 use Rattle.masks.proofs.Somewhere.{or-fails}
 use Rattle.stores.specs.Lists.{Lists}
-use Rattle.ic3.specs.Demands.{Distinct}
-use Rattle.circuit.specs.Circuit.{Circuit, Latch, Gate, latchVars, outs, every}
+use Rattle.ic3.specs.Demands.{listed, Distinct}
+use Rattle.circuit.specs.Circuit.{Latch, Gate, latchVars, outs, every}
 use Rattle.circuit.specs.Loops.{loopFree}
 use Rattle.circuit.specs.Refusals.{wires, defined, used, twice, known, nothingWatched, circuitRefusal}
 use Rattle.circuit.specs.Import.{importRefusal}
-use Rattle.circuit.proofs.Lists.{every-append, distinct-right}
+use Rattle.circuit.proofs.Lists.{every-append, listed-append, distinct-right}
+use Rattle.circuit.proofs.Sentences.{fixed-le}
 use Rattle.circuit.proofs.Main.{starting, stepping, watching, import-counts}
 use Rattle.circuit.proofs.Refusals.{twice-distinct}
-use Rattle.circuit.proofs.FirstEdition.{AllLow, fixed-low}
-use Rattle.aiger.specs.Text.{threes, firsts, vars, latchesOf, gatesOf, circuitOf}
-use Rattle.aiger.specs.Contracts.{knownIn, allKnown, Low, Limits, LoopFree, Counted, Sized, headerRefusal, Held, circuitIn, Outputs, wrongRows, short}
+use Rattle.aiger.specs.Text.{firsts, vars, latchesOf, gatesOf, circuitOf}
+use Rattle.aiger.specs.Contracts.{knownIn, startList, LoopFree, Sized, tooFew, Held, circuitIn}
+use Rattle.aiger.specs.Contracts.{wrongRows, sharedCount, short, lastRefusal}
 use Rattle.aiger.specs.Promise.{Result, refusedAt, lineFor, importedAs}
 use Rattle.aiger.specs.declared.Imported.{Imported}
 use Rattle.aiger.specs.declared.read.Header.{Header}
 use Rattle.aiger.specs.declared.read.Reading.{Reading}
-use Rattle.aiger.proofs.Slices.{rest-slice, fits}
-use Rattle.aiger.proofs.Threes.{threes-append, outs-rows, latches-rows, latches-many, gates-many, length-threes}
+use Rattle.aiger.proofs.Slices.{rest-slice}
+use Rattle.aiger.proofs.Threes.{threes-append, outs-rows, latches-rows, latches-many}
+use Rattle.aiger.proofs.Entering.{starts-many}
+use Rattle.aiger.proofs.Heading.{header-tests, header-limits, counted-latches, counted-inputs, counted-gates, counted-singles, refused}
+use Rattle.aiger.proofs.Knowing.{starts-known, gates-known}
 
--- ---- a header that is not refused
-module _ (h : Header) (e : headerRefusal h ≡ 0) where
-  pub header-tests : (ltb (h .m) (h .inputs + h .latches + h .gates) ≡ false)
-      × ((eqb (h .latches) 0 || ltb 32 (h .latches)) ≡ false)
-      × (ltb 64 (h .inputs + h .gates) ≡ false)
-  unfolding headerRefusal
-  header-tests =
-      let p = else-none _ _ e in
-      let q = else-none _ _ (p .1) in
-      (if-none 20 _ (p .0), if-none 21 _ (q .0), if-none 22 _ (q .1))
+-- ---- the last refusals
+-- the list of start has one clause a latch at most
+pub starts-most : (latches : List ℕ) → length latches ≤ 96 → length (startList latches) ≤ 128
+starts-most latches h = omega (arith, starts-many latches, fixed-le (latchesOf latches), latches-many latches)
 
-  pub header-limits : Limits h
-  header-limits =
-      record {
-        latches = ltb-false 32 (h .latches) (or-fails (eqb (h .latches) 0) (ltb 32 (h .latches)) .0 (header-tests .1) .1);
-        wires = ltb-false 64 (h .inputs + h .gates) (header-tests .2);
-      }
-
-else-zero : (x : ℕ) → (x else 0) ≡ x
-else-zero zero = refl
-else-zero (suc x) = refl
-
-pub all-low : (ls : List Latch) → every (λ (l : Latch). eqb (l .start) 0) ls ≡ true → AllLow ls
-unfolding every
-all-low [] e = tt
-all-low (l ∷ ls) e = let p = both _ _ e in (eqb-true (l .start) 0 (p .0), all-low ls (p .1))
-
--- ---- literals that rows use
--- the start value 0 is known
-low-known : (vs latches : List ℕ) → Low latches → allKnown vs latches ≡ every (knownIn vs) (map (λ (l : Latch). l .next) (latchesOf latches))
-unfolding threes every knownIn
-low-known vs [] l = refl
-low-known vs (a ∷ []) l = refl
-low-known vs (a ∷ (b ∷ [])) l = refl
-low-known vs (a ∷ (b ∷ (c ∷ rows))) l =
-    let p = both _ _ l in
-    ap₂ (λ (x y : Bool). x && y) (start-known b (eqb-true c 0 (p .0))) (low-known vs rows (p .1))
-  where
-    start-known : (b : ℕ) {c : ℕ} → c ≡ 0 → (knownIn vs b && knownIn vs c) ≡ knownIn vs b
-    start-known b e = rw e (and-true (knownIn vs b))
-
-gates-known : (vs gates : List ℕ) → allKnown vs gates
-    ≡ (every (knownIn vs) (map (λ (g : Gate). g .left) (gatesOf gates)) && every (knownIn vs) (map (λ (g : Gate). g .right) (gatesOf gates)))
-unfolding every
-gates-known vs gates = go (gatesOf gates)
-  where
-    turn : (a b x y : Bool) → ((a && b) && (x && y)) ≡ ((a && x) && (b && y))
-    turn true true x y = refl
-    turn true false true y = refl
-    turn true false false y = refl
-    turn false b x y = refl
-
-    go : (gs : List Gate) → every (λ (g : Gate). knownIn vs (g .left) && knownIn vs (g .right)) gs
-        ≡ (every (knownIn vs) (map (λ (g : Gate). g .left) gs) && every (knownIn vs) (map (λ (g : Gate). g .right) gs))
-    go [] = refl
-    go (g ∷ gs) =
-        ap (λ (x : Bool). (knownIn vs (g .left) && knownIn vs (g .right)) && x) (go gs)
-        ∙ turn (knownIn vs (g .left)) (knownIn vs (g .right)) _ _
-
--- ---- the counts are the header's
-module _ {text : List ℕ} {r : Reading} {inputs latches outputs gates : List ℕ} (k : Counted text r inputs latches outputs gates) where
-  counted-latches : length (circuitOf inputs latches outputs gates .latches) ≡ r .header .latches
-  unfolding circuitOf
-  counted-latches = omega (arith, latches-many latches, k .many-latches)
-
-  counted-inputs : length (circuitOf inputs latches outputs gates .inputs) ≡ r .header .inputs
-  unfolding circuitOf
-  counted-inputs = length-threes _ inputs ∙ omega (arith, k .many-inputs)
-
-  counted-gates : length (circuitOf inputs latches outputs gates .gates) ≡ r .header .gates
-  unfolding circuitOf
-  counted-gates = omega (arith, gates-many gates, k .many-gates)
-
-  -- a header that is refused: its number, and the header is the line
-  pub header-number : (a b d : ℕ) → (headerRefusal (r .header) ≡ 0 → ⊥)
-      → (importRefusal (r .header .m) (circuitOf inputs latches outputs gates) a b d ≡ headerRefusal (r .header))
-      × (lineFor (headerRefusal (r .header)) ≡ 1)
-  unfolding importRefusal circuitRefusal headerRefusal lineFor
-  header-number a b d f =
-      rw (counted-inputs, counted-latches, counted-gates)
-      (first (ltb (r .header .m) (r .header .inputs + r .header .latches + r .header .gates))
-      (eqb (r .header .latches) 0 || ltb 32 (r .header .latches))
-      (ltb 64 (r .header .inputs + r .header .gates)) _ _ f)
-    where
-      first : (p q s : Bool) (x y : ℕ) → ((21 if p else 22 if q else 23 if s) ≡ 0 → ⊥)
-          → (((21 if p else 22 if q else 23 if s else x) else y) ≡ (21 if p else 22 if q else 23 if s))
-          × (lineFor (21 if p else 22 if q else 23 if s) ≡ 1)
-      first true q s x y f = (refl, refl)
-      first false true s x y f = (refl, refl)
-      first false false true x y f = (refl, refl)
-      first false false false x y f = absurd (f refl)
+-- the last refusals, by their tests
+pub last-by : (h : Header) (latches : List ℕ) (a b d : ℕ) {x y z : Bool} → (eqb (h .outputs) 0 && eqb (h .bads) 0) ≡ x
+    → short h (length (startList latches)) a b d ≡ y → ltb mostClauses (2 * h .latches + sharedCount h) ≡ z
+    → lastRefusal h latches a b d ≡ (26 if x else 32 if y else 2 if z)
+unfolding lastRefusal
+last-by h latches a b d p q r = rw (p, q, r)
 
 -- ---- what is held
 module _ {text : List ℕ} {r : Reading} {rows : List ℕ} (h : Held text r rows) where
   abbrev H : Header
   H = r .header
+
+  abbrev literals : List ℕ
+  literals = firsts (h .singles)
 
   pub held-latches : length (circuitIn h .latches) ≡ H .latches
   held-latches = counted-latches (h .counted)
@@ -138,10 +65,6 @@ module _ {text : List ℕ} {r : Reading} {rows : List ℕ} (h : Held text r rows
 
   pub held-gates : length (circuitIn h .gates) ≡ H .gates
   held-gates = counted-gates (h .counted)
-
-  held-outputs : length (circuitIn h .outputs) ≡ H .outputs
-  unfolding circuitOf
-  held-outputs = length-threes _ (h .outputs) ∙ omega (arith, h .counted .many-outputs)
 
   -- the parts of the rows
   pub latch-rows : take (3 * H .latches) rows ≡ h .latches
@@ -177,87 +100,110 @@ module _ {text : List ℕ} {r : Reading} {rows : List ℕ} (h : Held text r rows
               h .counted .many-inputs,
               h .counted .many-gates,
             );
-        low = rw latch-rows (h .counted .low);
       }
 
-  pub held-watch : Outputs text r rows (H .latches)
-  held-watch = record { fits = fits H rows held-sized; outputs = h .outputs; again = h .counted .again }
+  -- ---- the literals that stand alone
+  held-outputs : length (circuitIn h .outputs) ≡ H .outputs
+  unfolding circuitOf
+  held-outputs = length-take-le (H .outputs) literals (omega (arith, counted-singles (h .counted)))
+
+  pub held-bads : length (circuitIn h .bads) ≡ H .bads
+  unfolding circuitOf
+  held-bads =
+      length-take-le (H .bads) (drop (H .outputs) literals) (omega (arith, counted-singles (h .counted), length-drop (H .outputs) literals))
+
+  pub held-constraints : length (circuitIn h .constraints) ≡ H .constraints
+  unfolding circuitOf
+  held-constraints = length-drop (H .outputs + H .bads) literals ∙ omega (arith, counted-singles (h .counted))
+
+  -- all of them, one behind the other
+  held-literals : literals ≡ circuitIn h .outputs ++ (circuitIn h .bads ++ circuitIn h .constraints)
+  unfolding circuitOf
+  held-literals =
+      sym (ap (λ (l : List ℕ). take (H .outputs) literals ++ (take (H .bads) (drop (H .outputs) literals) ++ l)) (sym rest)
+      ∙ (ap (λ (l : List ℕ). take (H .outputs) literals ++ l) (take-append-drop (H .bads) (drop (H .outputs) literals))
+      ∙ take-append-drop (H .outputs) literals))
+    where
+      rest : drop (H .bads) (drop (H .outputs) literals) ≡ drop (H .outputs + H .bads) literals
+      rest = drop-drop (H .bads) (H .outputs) literals
 
   -- ---- refusal 24
   pub held-24 : (twice (defined (circuitIn h)) || not (every (known (circuitIn h)) (used (circuitIn h))))
-      ≡ (wrongRows rows H || not (every (knownIn (vars rows)) (firsts (h .outputs))))
+      ≡ (wrongRows rows H || not (every (knownIn (vars rows)) literals))
   unfolding wrongRows known knownIn circuitOf every
   held-24 =
       let vs = defined (circuitIn h) in
       let ls = map (λ (l : Latch). l .next) (latchesOf (h .latches)) in
       let a = map (λ (g : Gate). g .left) (gatesOf (h .gates)) in
       let b = map (λ (g : Gate). g .right) (gatesOf (h .gates)) in
+      let o = circuitIn h .outputs ++ (circuitIn h .bads ++ circuitIn h .constraints) in
       let p = knownIn vs in
-      rw (held-vars, latch-rows, gate-rows, low-known vs (h .latches) (h .counted .low), gates-known vs (h .gates))
+      let own : (v : ℕ) → listed (vars (h .latches)) v ≡ true → listed vs v ≡ true =
+      λ v e. listed-append (latchVars (circuitIn h)) (wires (circuitIn h)) v
+      ∙ ap (λ (t : Bool). t || listed (wires (circuitIn h)) v) (ap (λ (us : List ℕ). listed us v) (latches-rows (h .latches)) ∙ e) in
+      rw (held-vars, latch-rows, gate-rows, starts-known vs (h .latches) own (h .right), gates-known vs (h .gates))
       (ap (λ (x : Bool). twice vs || not x)
-      (every-append p ls (a ++ (b ++ (firsts (h .outputs) ++ [])))
-      ∙ ap (λ (x : Bool). every p ls && x) (every-append p a (b ++ (firsts (h .outputs) ++ []))
-      ∙ ap (λ (x : Bool). every p a && x) (every-append p b (firsts (h .outputs) ++ [])
-      ∙ ap (λ (x : Bool). every p b && x) (every-append p (firsts (h .outputs)) []))))
-      ∙ sort (twice vs) (every p ls) (every p a) (every p b) (every p (firsts (h .outputs))))
+      (every-append p ls (a ++ (b ++ o))
+      ∙ ap (λ (x : Bool). every p ls && x) (every-append p a (b ++ o)
+      ∙ ap (λ (x : Bool). every p a && x) (every-append p b o)))
+      ∙ (sort (twice vs) (every p ls) (every p a) (every p b) (every p o)
+      ∙ ap (λ (l : List ℕ). (twice vs || (not (every p ls) || not (every p a && every p b))) || not (every p l)) (sym held-literals)))
     where
-      sort : (t n l r o : Bool) → (t || not (n && (l && (r && (o && true))))) ≡ ((t || (not n || not (l && r))) || not o)
+      sort : (t n l r o : Bool) → (t || not (n && (l && (r && o)))) ≡ ((t || (not n || not (l && r))) || not o)
       sort true n l r o = refl
       sort false false l r o = refl
       sort false true false r o = refl
       sort false true true false o = refl
-      sort false true true true true = refl
-      sort false true true true false = refl
+      sort false true true true o = refl
 
   -- ---- the refusals from 24 on, as they are found
   pub held-refusal : circuitRefusal (H .m) (circuitIn h)
-      ≡ 24 if (wrongRows rows H || not (every (knownIn (vars rows)) (firsts (h .outputs))))
+      ≡ 24 if (wrongRows rows H || not (every (knownIn (vars rows)) literals))
       else 25 if not (loopFree (gatesOf (h .gates)))
-      else 26 if eqb (H .outputs) 0
-  unfolding circuitRefusal nothingWatched circuitOf
+      else 26 if eqb (H .outputs) 0 && eqb (H .bads) 0
+  unfolding circuitRefusal nothingWatched tooFew circuitOf
   held-refusal =
       let t = header-tests H (h .header) in
       let c = circuitIn h in
       let e₁ : ltb (H .m) (length (c .inputs) + length (c .latches) + length (c .gates)) ≡ false =
-      rw (held-inputs, held-latches, held-gates) (t .0) in
-      let e₂ : (eqb (length (c .latches)) 0 || ltb 32 (length (c .latches))) ≡ false = rw held-latches (t .1) in
-      let e₃ : ltb 64 (length (c .inputs) + length (c .gates)) ≡ false = rw (held-inputs, held-gates) (t .2) in
-      let e₅ : nothingWatched c ≡ eqb (H .outputs) 0 = rw held-outputs (and-true (eqb (H .outputs) 0)) in
-      past (not (loopFree (gatesOf (h .gates)))) e₁ e₂ e₃ held-24 e₅
+      rw (held-inputs, held-latches, held-gates) (h .enough) in
+      let e₂ : (eqb (length (c .latches)) 0 || ltb 32 (length (c .latches))) ≡ false = rw held-latches (t .0) in
+      let e₃ : ltb 64 (length (c .inputs) + length (c .gates)) ≡ false = rw (held-inputs, held-gates) (t .1) in
+      let e₅ : nothingWatched c ≡ (eqb (H .outputs) 0 && eqb (H .bads) 0) = rw (held-outputs, held-bads) in
+      past (not (loopFree (gatesOf (h .gates)))) e₁ (h .right) e₂ e₃ held-24 e₅
     where
-      past : {a b c d d' : Bool} (f : Bool) {g g' : Bool} → a ≡ false → b ≡ false → c ≡ false → d ≡ d' → g ≡ g'
-          → (21 if a else 22 if b else 23 if c else 24 if d else 25 if f else 26 if g) ≡ (24 if d' else 25 if f else 26 if g')
-      past f e₁ e₂ e₃ e₄ e₅ = rw (e₁, e₂, e₃, e₄, e₅)
+      past : {a s b c d d' : Bool} (f : Bool) {g g' : Bool} → a ≡ false → s ≡ false → b ≡ false → c ≡ false → d ≡ d' → g ≡ g'
+          → (21 if a else 28 if s else 22 if b else 23 if c else 24 if d else 25 if f else 26 if g) ≡ (24 if d' else 25 if f else 26 if g')
+      past f e₁ e₂ e₃ e₄ e₅ e₆ = rw (e₁, e₂, e₃, e₄, e₅, e₆)
 
   -- the lengths of the lists, by the header's counts
-  pub held-short : (a b d : ℕ)
-      → (ltb a (4 * starting (circuitIn h)) || (ltb b (4 * stepping (circuitIn h)) || ltb d (4 * watching (circuitIn h)))) ≡ short H a b d
-  unfolding short circuitOf
-  held-short a b d =
-      rw (fixed-low (latchesOf (h .latches)) (all-low _ (h .counted .low)), held-latches, held-gates, add-zero (3 * H .gates))
+  held-stepping : stepping (circuitIn h) ≡ 2 * H .latches + sharedCount H
+  held-stepping = rw (held-latches, held-gates, held-constraints)
 
-  held-few : (ltb mostClauses (stepping (circuitIn h))) ≡ false
-  unfolding circuitOf
-  held-few =
-      let l = header-limits H (h .header) in
-      le-ltb mostClauses (stepping (circuitIn h)) (omega (arith, held-latches, held-gates, l .latches, l .wires))
+  pub held-short : (a b d : ℕ)
+      → (ltb a (4 * starting (circuitIn h)) || (ltb b (4 * stepping (circuitIn h)) || ltb d (4 * watching (circuitIn h))))
+      ≡ short H (length (startList (h .latches))) a b d
+  unfolding short circuitOf
+  held-short a b d = rw (held-stepping, held-gates, held-constraints, starts-many (h .latches))
 
   -- the refusal of the import
   pub held-number : (a b d : ℕ) → importRefusal (H .m) (circuitIn h) a b d
-      ≡ 24 if (wrongRows rows H || not (every (knownIn (vars rows)) (firsts (h .outputs))))
+      ≡ 24 if (wrongRows rows H || not (every (knownIn (vars rows)) literals))
       else 25 if not (loopFree (gatesOf (h .gates)))
-      else 26 if eqb (H .outputs) 0
-      else 32 if short H a b d
-  unfolding importRefusal
+      else lastRefusal H (h .latches) a b d
+  unfolding importRefusal lastRefusal
   held-number a b d =
       first (circuitRefusal (H .m) (circuitIn h)) refl
-      ∙ (ap (λ (x : ℕ). x else 32 if short H a b d) held-refusal
-      ∙ last (wrongRows rows H || not (every (knownIn (vars rows)) (firsts (h .outputs)))) (not (loopFree (gatesOf (h .gates))))
-      (eqb (H .outputs) 0) _)
+      ∙ (ap (λ (x : ℕ). x else behind) held-refusal
+      ∙ last (wrongRows rows H || not (every (knownIn (vars rows)) literals)) (not (loopFree (gatesOf (h .gates))))
+      (eqb (H .outputs) 0 && eqb (H .bads) 0) _)
     where
+      behind : ℕ
+      behind = 32 if short H (length (startList (h .latches))) a b d else 2 if ltb mostClauses (2 * H .latches + sharedCount H)
+
       first : (x : ℕ) → circuitRefusal (H .m) (circuitIn h) ≡ x
-          → importRefusal (H .m) (circuitIn h) a b d ≡ circuitRefusal (H .m) (circuitIn h) else 32 if short H a b d
-      first zero e = import-counts (H .m) (circuitIn h) a b d e ∙ rw (e, held-short a b d, held-few) (else-zero (32 if short H a b d))
+          → importRefusal (H .m) (circuitIn h) a b d ≡ circuitRefusal (H .m) (circuitIn h) else behind
+      first zero e = import-counts (H .m) (circuitIn h) a b d e ∙ rw (e, held-short a b d, held-stepping)
       first (suc k) e = rw (e, importRefusal)
 
       last : (p q r : Bool) (x : ℕ) → ((24 if p else 25 if q else 26 if r) else x) ≡ (24 if p else 25 if q else 26 if r else x)
@@ -269,7 +215,7 @@ module _ {text : List ℕ} {r : Reading} {rows : List ℕ} (h : Held text r rows
   -- each number by the tests that were made
   module _ (a b d : ℕ) where
     abbrev K : Bool
-    K = every (knownIn (vars rows)) (firsts (h .outputs))
+    K = every (knownIn (vars rows)) literals
 
     abbrev number : ℕ
     number = importRefusal (H .m) (circuitIn h) a b d
@@ -281,15 +227,58 @@ module _ {text : List ℕ} {r : Reading} {rows : List ℕ} (h : Held text r rows
       pub number-25 : loopFree (gatesOf (h .gates)) ≡ false → number ≡ 25
       number-25 f = held-number a b d ∙ rw (e, f)
 
-      module _ (f : loopFree (gatesOf (h .gates)) ≡ true) where
-        pub number-26 : H .outputs ≡ 0 → number ≡ 26
-        number-26 g = held-number a b d ∙ rw (e, f, eq-eqb (H .outputs) 0 g)
+      pub number-last : loopFree (gatesOf (h .gates)) ≡ true → number ≡ lastRefusal H (h .latches) a b d
+      number-last f = held-number a b d ∙ rw (e, f)
 
-        pub number-32 : (H .outputs ≡ 0 → ⊥) → short H a b d ≡ true → number ≡ 32
-        number-32 g s = held-number a b d ∙ rw (e, f, ne-eqb (H .outputs) 0 g, s)
+  -- where none of the last is given: each store has room, and there are no more constraints than clauses
+  module _ (a b d : ℕ) (e : lastRefusal H (h .latches) a b d ≡ 0) where
+    last-tests : (short H (length (startList (h .latches))) a b d ≡ false) × (ltb mostClauses (2 * H .latches + sharedCount H) ≡ false)
+    unfolding lastRefusal
+    last-tests =
+        let p = else-none (26 if eqb (H .outputs) 0 && eqb (H .bads) 0) _ e in
+        let q = else-none (32 if short H (length (startList (h .latches))) a b d) _ (p .1) in
+        (if-none 31 _ (q .0), if-none 1 _ (q .1))
 
-        pub number-0 : (H .outputs ≡ 0 → ⊥) → short H a b d ≡ false → number ≡ 0
-        number-0 g s = held-number a b d ∙ rw (e, f, ne-eqb (H .outputs) 0 g, s)
+    pub last-room : short H (length (startList (h .latches))) a b d ≡ false
+    last-room = last-tests .0
+
+    pub last-few : H .constraints ≤ 4096
+    last-few = omega (arith, ltb-false mostClauses (2 * H .latches + sharedCount H) (last-tests .1))
+
+  -- a number that was found for the rows
+  module _ (a b d number : ℕ) (found : number ≡ lastRefusal H (take (3 * H .latches) rows) a b d) where
+    abbrev last : ℕ
+    last = lastRefusal H (h .latches) a b d
+
+    last-found : number ≡ last
+    last-found = found ∙ ap (λ (ls : List ℕ). lastRefusal H ls a b d) latch-rows
+
+    pub last-none : number ≡ 0 → last ≡ 0
+    last-none e = sym last-found ∙ e
+
+    -- the last refusals have no line, but for 26, which is the header's
+    other-line : (last ≡ 26 → ⊥) → lineFor (circuitIn h) last ≡ 0
+    unfolding lastRefusal lineFor
+    other-line f =
+        pick (eqb (H .outputs) 0 && eqb (H .bads) 0) (short H (length (startList (h .latches))) a b d)
+        (ltb mostClauses (2 * H .latches + sharedCount H)) f
+      where
+        pick : (x y z : Bool) → ((26 if x else 32 if y else 2 if z) ≡ 26 → ⊥) → lineFor (circuitIn h) (26 if x else 32 if y else 2 if z) ≡ 0
+        pick true y z f = absurd (f refl)
+        pick false true z f = refl
+        pick false false true f = refl
+        pick false false false f = refl
+
+    last-line : (line : ℕ) → ((number ≡ 26) × (line ≡ 1)) ⊎ ((number ≡ 26 → ⊥) × (line ≡ 0)) → lineFor (circuitIn h) number ≡ line
+    unfolding lineFor
+    last-line line (inl w) = ap (lineFor (circuitIn h)) (w .0) ∙ sym (w .1)
+    last-line line (inr w) = ap (lineFor (circuitIn h)) last-found ∙ (other-line (λ e. w .0 (last-found ∙ e)) ∙ sym (w .1))
+
+    pub last-refused : (lent : Lists) {i : Imported} {line : ℕ} → importRefusal (H .m) (circuitIn h) a b d ≡ last → (number ≡ 0 → ⊥)
+        → ((number ≡ 26) × (line ≡ 1)) ⊎ ((number ≡ 26 → ⊥) × (line ≡ 0)) → i ≡ refusedAt number line
+        → _≡_ {A = Result} (record { import = i; after = lent }) (importedAs lent (circuitIn h) (importRefusal (H .m) (circuitIn h) a b d))
+    last-refused lent {line = line} e f w i =
+        refused lent (circuitIn h) (e ∙ sym last-found) (⊎-elim (λ z. absurd (f z)) (λ p. p) (eq-zero-or-pos number)) (last-line line w) i
 
   -- no gate's variable is defined twice where no row's is
   pub held-loops : wrongRows rows H ≡ false → (found : Bool)
@@ -304,10 +293,3 @@ module _ {text : List ℕ} {r : Reading} {rows : List ℕ} (h : Held text r rows
     where
       c-inputs : List ℕ
       c-inputs = circuitIn h .inputs
-
--- ---- a refusal leaves the stores alone
-pub refused : (lent : Lists) (c : Circuit) {number k line : ℕ} {i : Imported} → number ≡ k → 1 ≤ k → lineFor k ≡ line → i ≡ refusedAt k line
-    → _≡_ {A = Result} (record { import = i; after = lent }) (importedAs lent c number)
-unfolding importedAs
-refused lent c {k = zero} e p l q = absurd (omega arith)
-refused lent c {k = suc k} e p l q = rw (e, l, q)

@@ -1,16 +1,19 @@
 -- Rows that were written in the order of the file stand in the order of their places: latches, inputs, gates. So what was kept can be judged. Assumes
 -- nothing.
 use Prim.Native.Nat.{ℕ, zero, suc, _+_, _*_, _≤_}
+use mathlib.Core.Bool.{false}
 use mathlib.Core.List.{List, [], _∷_, _++_, append-assoc}
 use mathlib.Core.Path.{_≡_, refl, sym, ap, _∙_}
 use native.Mathlib.Omega.{arith}
 use lib.ListN.{length, take, drop, length-append, length-drop, take-append-drop}
 use lib.Seq.{length-take-le, take-at, drop-at}
 use Rattle.text.specs.Writing.{laid}
-use Rattle.aiger.specs.Text.{Told}
-use Rattle.aiger.specs.Contracts.{mostRows, Kept, headerRefusal, Held}
+use Rattle.circuit.specs.Circuit.{any}
+use Rattle.circuit.specs.Refusals.{wrongStart}
+use Rattle.aiger.specs.Text.{latchesOf, Told}
+use Rattle.aiger.specs.Contracts.{mostRows, Kept, tooFew, headerRefusal, Held}
 use Rattle.aiger.specs.declared.read.Reading.{Reading}
-use Rattle.aiger.proofs.Judging.{header-limits}
+use Rattle.aiger.proofs.Heading.{header-limits}
 
 -- ---- a list written over a front part, and behind one
 laid-behind : (p q w : List ℕ) (i : ℕ) → length p ≡ i → laid i w (p ++ q) ≡ p ++ laid 0 w q
@@ -59,9 +62,9 @@ module _ (a b c buffer : List ℕ) (fits : length a + length b + length c ≤ le
 
 -- ---- what was kept
 unfoldable pub kept-held : (text : List ℕ) (what : Told) (before : List ℕ) (r : Reading) (after : List ℕ) → (k : Kept text what before r after)
-    → length before ≡ mostRows → headerRefusal (r .header) ≡ 0
+    → length before ≡ mostRows → tooFew (r .header) ≡ false → any wrongStart (latchesOf (k .latches)) ≡ false → headerRefusal (r .header) ≡ 0
     → Held text r (take (3 * (r .header .latches + r .header .inputs + r .header .gates)) after)
-kept-held text what before r after k e f =
+kept-held text what before r after k e enough right f =
     let n = k .counted in
     let l = header-limits (r .header) f in
     let i : 3 * r .header .latches ≡ length (k .latches) = sym (n .many-latches) in
@@ -72,12 +75,14 @@ kept-held text what before r after k e f =
     record {
       inputs = k .inputs;
       latches = k .latches;
-      outputs = k .outputs;
+      singles = k .singles;
       gates = k .gates;
       counted = n;
       content =
           rw (k .content, j, i, m)
           (third (k .latches) (k .inputs) (k .gates) before
           (omega (arith, e, n .many-latches, n .many-inputs, n .many-gates, l .latches, l .wires)));
+      enough = enough;
+      right = right;
       header = f;
     }

@@ -1,11 +1,11 @@
 -- The lists that are entered are those of the circuit's system: each row stands where its variable does. Assumes nothing.
 use Prim.Native.Nat.{ℕ, _+_, _*_, _/_, _≤_}
-use mathlib.Core.Bool.{false, _||_}
-use mathlib.Core.List.{List, [], _∷_, _++_, append-nil}
+use mathlib.Core.Bool.{true, false, _||_}
+use mathlib.Core.List.{List, [], _∷_, _++_, append-assoc}
 use mathlib.Core.Path.{_≡_, sym, ap, ap₂, _∙_}
 use native.Mathlib.Omega.{arith}
-use borrow.Author.Tests.{ltb-false}
-use lib.Dec.{ltb}
+use borrow.Author.Tests.{ltb-false, eq-eqb, ne-eqb}
+use lib.Dec.{eqb, ltb}
 use lib.ListN.{length, take, drop}
 use Rattle.stores.specs.Over.{over}
 use Rattle.stores.specs.Lists.{Lists, lists, filled}
@@ -17,13 +17,14 @@ use Rattle.circuit.proofs.Sentences.{lengths}
 use Rattle.circuit.proofs.Main.{starting, stepping, watching}
 use Rattle.aiger.specs.Text.{firsts, latchesOf, gatesOf, circuitOf}
 use Rattle.aiger.specs.Promise.{Result, entered}
-use Rattle.aiger.specs.Contracts.{Held, circuitIn, placeBy, startList, stepList, badList, short, Enters}
+use Rattle.aiger.specs.Contracts.{Held, circuitIn, placeBy, watchedOf, constraintsOf, Constraints, startList, stepList, badList, short, Enters}
+use Rattle.aiger.specs.declared.again.Singles.{Singles}
 use Rattle.aiger.specs.declared.Imported.{Imported}
 use Rattle.aiger.specs.declared.read.Header.{Header}
 use Rattle.aiger.specs.declared.read.Reading.{Reading}
 use Rattle.aiger.proofs.Placing.{place-by}
 use Rattle.aiger.proofs.Writing.{flat-append}
-use Rattle.aiger.proofs.Judging.{held-latches, held-inputs, held-gates, held-vars, held-short, latch-rows, gate-rows}
+use Rattle.aiger.proofs.Judging.{held-latches, held-inputs, held-gates, held-bads, held-vars, held-short, latch-rows, gate-rows}
 
 -- ---- an answer by its parts
 abbrev made : ℕ → ℕ → ℕ → ℕ → ℕ → ℕ → ℕ → Imported
@@ -51,33 +52,55 @@ module _ {text : List ℕ} {r : Reading} {rows : List ℕ} (h : Held text r rows
   held-place : placeBy rows (H .latches) ≡ placeOf (circuitIn h)
   held-place = place-by (circuitIn h) rows (H .latches) (held-vars h) (held-latches h)
 
-  -- the gates' clauses are all that both lists share
-  gates-shared : flat (gateClauses (placeOf (circuitIn h)) (gatesOf (h .gates))) ≡ flat (shared (circuitIn h))
-  unfolding circuitOf constraintClauses
-  gates-shared = ap flat (sym (append-nil (gateClauses (placeOf (circuitIn h)) (gatesOf (h .gates)))))
+  abbrev literals : List ℕ
+  literals = firsts (h .singles)
+
+  -- the clauses of gates and constraints are all that both lists share
+  shared-same : flat (gateClauses (placeOf (circuitIn h)) (gatesOf (h .gates))) ++ flat (constraintClauses (placeOf (circuitIn h)) (constraintsOf H literals))
+      ≡ flat (shared (circuitIn h))
+  unfolding circuitOf
+  shared-same = sym (flat-append (gateClauses (placeOf (circuitIn h)) (gatesOf (h .gates))) _)
 
   start-same : startList (take (3 * H .latches) rows) ≡ imported (circuitIn h) .start
   unfolding startList imported circuitOf
   start-same = rw (latch-rows h)
 
-  step-same : stepList rows (take (3 * H .latches) rows) (drop (3 * (H .latches + H .inputs)) rows) ≡ imported (circuitIn h) .step
+  step-same : stepList rows (take (3 * H .latches) rows) (drop (3 * (H .latches + H .inputs)) rows) (constraintsOf H literals)
+      ≡ imported (circuitIn h) .step
   unfolding stepList imported circuitOf
   step-same =
       let third : length (h .latches) / 3 ≡ H .latches = omega (arith, h .counted .many-latches) in
+      let ls = flat (latchClauses (placeOf (circuitIn h)) 0 (latchesOf (h .latches))) in
       rw (latch-rows h, gate-rows h, third, held-place)
-      (ap (λ (l : List ℕ). flat (latchClauses (placeOf (circuitIn h)) 0 (latchesOf (h .latches))) ++ l) gates-shared
-      ∙ sym (flat-append (latchClauses (placeOf (circuitIn h)) 0 (latchesOf (h .latches))) (shared (circuitIn h))))
+      (append-assoc ls _ _
+      ∙ (ap (λ (l : List ℕ). ls ++ l) shared-same
+      ∙ sym (flat-append (latchClauses (placeOf (circuitIn h)) 0 (latchesOf (h .latches))) (shared (circuitIn h)))))
 
-  bad-same : (outputs : Clause) → outputs ≡ marks (placeBy rows (H .latches)) empty (firsts (h .outputs))
-      → badList rows (H .latches) (drop (3 * (H .latches + H .inputs)) rows) outputs ≡ imported (circuitIn h) .bad
-  unfolding badList imported watched circuitOf
-  bad-same outputs e =
-      rw (gate-rows h, e, held-place)
-      (ap (λ (l : List ℕ). flat (clauseOf (placeOf (circuitIn h)) (firsts (h .outputs)) ∷ []) ++ l) gates-shared
-      ∙ sym (flat-append (clauseOf (placeOf (circuitIn h)) (firsts (h .outputs)) ∷ []) (shared (circuitIn h))))
+  -- what is watched is the bad-state lines, or the outputs where there are none
+  watched-same : watchedOf H literals ≡ watched (circuitIn h)
+  unfolding watchedOf watched circuitOf
+  watched-same =
+      let bads = take (H .bads) (drop (H .outputs) literals) in
+      chosen bads bads (H .bads) (take (H .outputs) literals) (held-bads h)
+    where
+      chosen : (l all : List ℕ) (n : ℕ) (o : List ℕ) → length l ≡ n
+          → _≡_ {A = List ℕ} (elim (eqb n 0) [ true ↦ o | false ↦ all ]) (elim l [ [] ↦ o | b ∷ bs ↦ all ])
+      chosen [] all n o e = rw (eq-eqb n 0 (sym e))
+      chosen (b ∷ bs) all n o e = rw (ne-eqb n 0 (λ z. omega arith))
+
+  bad-same : (clause : Clause) → clause ≡ marks (placeBy rows (H .latches)) empty (watchedOf H literals)
+      → badList rows (H .latches) (drop (3 * (H .latches + H .inputs)) rows) (constraintsOf H literals) clause ≡ imported (circuitIn h) .bad
+  unfolding badList imported circuitOf
+  bad-same clause e =
+      let one = flat (clauseOf (placeOf (circuitIn h)) (watched (circuitIn h)) ∷ []) in
+      rw (gate-rows h, e, held-place, watched-same)
+      (append-assoc one _ _
+      ∙ (ap (λ (l : List ℕ). one ++ l) shared-same
+      ∙ sym (flat-append (clauseOf (placeOf (circuitIn h)) (watched (circuitIn h)) ∷ []) (shared (circuitIn h)))))
 
   -- ---- where each store has room
-  module _ (lent : Lists) (room : short H (length (lent .start)) (length (lent .step)) (length (lent .bad)) ≡ false) where
+  module _ (lent : Lists)
+      (room : short H (length (startList (h .latches))) (length (lent .start)) (length (lent .step)) (length (lent .bad)) ≡ false) where
     roomy : (length (imported (circuitIn h) .start) ≤ length (lent .start))
         × (length (imported (circuitIn h) .step) ≤ length (lent .step))
         × (length (imported (circuitIn h) .bad) ≤ length (lent .bad))
@@ -93,20 +116,22 @@ module _ {text : List ℕ} {r : Reading} {rows : List ℕ} (h : Held text r rows
           omega (arith, lengths c .2, ltb-false (length (lent .bad)) (4 * watching c) (q .1)),
         )
 
-    pub enters-system : (outputs : Clause) (q : Imported) (after : Lists) → Enters rows H outputs lent q after
-        → outputs ≡ marks (placeBy rows (H .latches)) empty (firsts (h .outputs))
+    pub enters-system : (x : Singles) (clause : Clause) (q : Imported) (after : Lists) → Enters text x rows H clause lent q after
+        → clause ≡ marks (placeBy rows (H .latches)) empty (watchedOf H literals) → Constraints text x (constraintsOf H literals)
         → _≡_ {A = Result} (record { import = q; after = after }) (entered (imported (circuitIn h)) lent)
     unfolding entered filled imported
-    enters-system outputs q after e o =
+    enters-system x clause q after e o again =
         let y = imported (circuitIn h) in
         let s = start-same in
         let t = step-same in
-        let b = bad-same outputs o in
+        let b = bad-same clause o in
+        let step = e .step _ again in
+        let bad = e .bad _ again in
         ap₂ (λ (i : Imported) (l : Lists). record { import = i; after = l })
         (by-parts q (e .number .0) (e .number .1) (e .sizes .0 ∙ sym (held-latches h))
         (e .sizes .1 ∙ ap₂ (λ (x z : ℕ). x + z) (sym (held-inputs h)) (sym (held-gates h)))
-        (e .start .end ∙ ap length s) (e .step .end ∙ ap length t) (e .bad .end ∙ ap length b))
+        (e .start .end ∙ ap length s) (step .end ∙ ap length t) (bad .end ∙ ap length b))
         (by-lists after
         (e .start .content (rw s (roomy .0)) ∙ ap (λ (l : List ℕ). over l (lent .start)) s)
-        (e .step .content (rw t (roomy .1)) ∙ ap (λ (l : List ℕ). over l (lent .step)) t)
-        (e .bad .content (rw b (roomy .2)) ∙ ap (λ (l : List ℕ). over l (lent .bad)) b))
+        (step .content (rw t (roomy .1)) ∙ ap (λ (l : List ℕ). over l (lent .step)) t)
+        (bad .content (rw b (roomy .2)) ∙ ap (λ (l : List ℕ). over l (lent .bad)) b))

@@ -88,7 +88,7 @@ module _ {text : List ℕ} {at end : ℕ} {s : Progress} (g : GoesOn text at end
         stands = record {
           reader = turn-within;
           within = g .stands .reader;
-          bounded = record { row = b .row; lines = b .lines; line = b .line; some-number = b .some-number; width = b .width };
+          bounded = record { row = b .row; lines = b .lines; line = b .line; some-number = b .some-number; width = b .width; start = b .start };
           place = λ m. clash m refl;
           left = λ m. clash m refl;
           fine = λ m. clash m refl;
@@ -121,6 +121,7 @@ module _ {text : List ℕ} {at end : ℕ} {s : Progress} (g : GoesOn text at end
             line = omega arith;
             some-number = b .some-number;
             width = b .width;
+            start = b .start;
           };
           place = λ m. refl;
           left = λ m. omega (arith, ltb-true 1 (s .left) m);
@@ -142,12 +143,12 @@ module _ {text : List ℕ} {at end : ℕ} {s : Progress} (g : GoesOn text at end
 -- ---- a part from its beginning to its end
 module _ {text : List ℕ} {form : Form} {count line at row : ℕ} where
   pub part-begins : at ≤ length text → 1 ≤ line → row + 3 * count < 2 ^ 62 → line + count < 2 ^ 62 → 1 ≤ form .width → form .width ≤ 3
-      → Begins text (begun form count line at row)
-  part-begins within first rows lines least most =
+      → (form .starts ≡ true → form .width ≤ 2) → Begins text (begun form count line at row)
+  part-begins within first rows lines least most start =
       record {
         reader = within;
         within = within;
-        bounded = record { row = rows; lines = lines; line = first; some-number = least; width = most };
+        bounded = record { row = rows; lines = lines; line = first; some-number = least; width = most; start = start };
         place = λ m. refl;
         left = λ m. ltb-true 0 count m;
         fine = λ m. refl;

@@ -1,25 +1,21 @@
 -- Clauses written row by row: what was written, and what of the whole is still to be. Then where the clauses of one latch and of one gate stand in
 -- front of those of the others. Assumes nothing.
-use Prim.Native.Nat.{ℕ, _+_, _-_, _*_, _/_, _%_, _<_}
-use mathlib.Core.Bool.{true}
+use Prim.Native.Nat.{ℕ, zero, suc, _+_, _-_, _*_, _/_, _%_, _≤_, _<_}
 use mathlib.Core.List.{List, [], _∷_, _++_, append-assoc, append-nil}
 use mathlib.Core.Logic.{_⊎_, inl, inr, ⊎-elim}
 use mathlib.Core.Path.{_≡_, refl, sym, ap, _∙_}
 use native.Mathlib.Nat.{eq-zero-or-pos}
 use native.Mathlib.Numerals.{add-one}
 use native.Mathlib.Omega.{arith}
-use borrow.Author.Tests.{eqb-true}
-use lib.Dec.{eqb}
 use lib.ListN.{length, getD, drop}
-use Rattle.base.proofs.Tests.{both}
 use Rattle.text.specs.Writing.{Writes}
 use Rattle.text.proofs.Laying.{writes-then, writes-none}
 use Rattle.masks.specs.declared.Mask.{Mask}
 use Rattle.system.specs.declared.Clause.{Clause}
-use Rattle.circuit.specs.Circuit.{Latch, low, first, every}
+use Rattle.circuit.specs.Circuit.{Latch, first}
 use Rattle.circuit.specs.Import.{Place, here, clause, withPlace, flip, marks, empty, mark, startClauses, latchClauses, gateClauses, flat}
 use Rattle.aiger.specs.Text.{latchesOf, gatesOf}
-use Rattle.aiger.specs.Contracts.{latchOf, gateOf, Low}
+use Rattle.aiger.specs.Contracts.{startingAt, latchOf, gateOf}
 use Rattle.aiger.proofs.Threes.{threes-next}
 
 -- of the masks `all`, all but `rest` were written from index `from` on, and end at index `at`
@@ -51,9 +47,6 @@ flat-append [] b = refl
 flat-append (m ∷ ms) b =
     ap {B = List ℕ} (λ l. m .ones .pair ∷ (m .zeros .pair ∷ (m .ones .wires ∷ (m .zeros .wires ∷ l)))) (flat-append ms b)
 
-flat-first : (m : Clause) (ms : List Clause) → flat (m ∷ ms) ≡ flat (m ∷ []) ++ flat ms
-flat-first m ms = flat-append (m ∷ []) ms
-
 pub clause-end : {at : ℕ} (m : Clause) {before : List ℕ} {r : ℕ} {after : List ℕ} → Writes at (flat (m ∷ [])) before r after → r ≡ at + 4
 unfolding flat
 clause-end m w = w .end
@@ -67,29 +60,40 @@ pub with-inverted : (k : ℕ) (r m : Clause) (zeros : Mask) → r ≡ m → zero
 unfolding mark
 with-inverted k r m zeros e z = rw (z, e)
 
--- ---- start
-first-low : (l : Latch) → eqb (l .start) 0 ≡ true → first l ≡ low
-unfolding first
-first-low l e = rw (eqb-true (l .start) 0 e)
+-- ---- a latch's start clause, by its start value
+pub start-zero : (k start : ℕ) (m : Clause) → start ≡ 0 → m ≡ mark (here k) 1 empty → flat (m ∷ []) ≡ flat (startClauses k (startingAt start ∷ []))
+unfolding startClauses first
+start-zero k start m s e = rw (s, e)
 
-low-next : (latches : List ℕ) (i : ℕ) → i + 2 < length latches → Low (drop i latches)
-    → (eqb (getD latches (i + 2) 0) 0 ≡ true) × Low (drop (i + 3) latches)
-unfolding every
-low-next latches i h l = both _ _ (rw (threes-next _ latches i h) at l)
+pub start-one : (k start : ℕ) (m : Clause) → start ≡ 1 → m ≡ mark (here k) 0 empty → flat (m ∷ []) ≡ flat (startClauses k (startingAt start ∷ []))
+unfolding startClauses first
+start-one k start m s e = rw (s, e)
 
-abbrev latchAt : List ℕ → ℕ → Latch
-latchAt latches i = record { var = getD latches i 0 / 2; next = getD latches (i + 1) 0; start = getD latches (i + 2) 0 }
+pub start-either : (k start : ℕ) → 1 < start → flat (startClauses k (startingAt start ∷ [])) ≡ []
+unfolding startClauses first flat
+start-either k zero h = absurd (omega arith)
+start-either k (suc zero) h = absurd (omega arith)
+start-either k (suc (suc r)) h = refl
 
--- the clause of the latch at index i, where all start at 0
-pub start-next : (latches : List ℕ) (i k : ℕ) (m : Clause) → i + 2 < length latches → Low (drop i latches) → m ≡ mark (here k) 1 empty
-    → (flat (startClauses k (latchesOf (drop i latches))) ≡ flat (m ∷ []) ++ flat (startClauses (k + 1) (latchesOf (drop (i + 3) latches))))
-    × Low (drop (i + 3) latches)
-unfolding startClauses
-start-next latches i k m h l e =
-    let p = low-next latches i h l in (
-      rw (threes-next _ latches i h, add-one k, e) (rw (first-low (latchAt latches i) (p .0), startClauses) (flat-first _ _)),
-      p .1,
-    )
+pub start-end : {at : ℕ} (k start : ℕ) {before : List ℕ} {r : ℕ} {after : List ℕ}
+    → Writes at (flat (startClauses k (startingAt start ∷ []))) before r after → r ≤ at + 4
+unfolding startClauses first flat
+start-end k zero w = omega (arith, w .end)
+start-end k (suc zero) w = omega (arith, w .end)
+start-end k (suc (suc q)) w = omega (arith, w .end)
+
+-- in front of those of the other latches
+start-first : (k var next start : ℕ) (ls : List Latch)
+    → startClauses k (record { var = var; next = next; start = start } ∷ ls) ≡ startClauses k (startingAt start ∷ []) ++ startClauses (suc k) ls
+unfolding startClauses first
+start-first k var next zero ls = refl
+start-first k var next (suc zero) ls = refl
+start-first k var next (suc (suc r)) ls = refl
+
+pub start-next : (latches : List ℕ) (i k : ℕ) → i + 2 < length latches
+    → flat (startClauses k (latchesOf (drop i latches)))
+    ≡ flat (startClauses k (startingAt (getD latches (i + 2) 0) ∷ [])) ++ flat (startClauses (k + 1) (latchesOf (drop (i + 3) latches)))
+start-next latches i k h = rw (threes-next _ latches i h, add-one k) (ap flat (start-first k _ _ _ _) ∙ flat-append _ _)
 
 -- ---- an inverted literal: the same variable, the other sign
 sign-or : (l : ℕ) → (l % 2 ≡ 0) ⊎ (l % 2 ≡ 1)

@@ -7,19 +7,20 @@ use mathlib.Core.Option.{none, some}
 use mathlib.Core.Path.{_≡_}
 use lib.Dec.{eqb, ltb}
 use lib.ListN.{length, take, drop}
-use Rattle.base.specs.Refusals.{_if_, _else_}
+use Rattle.base.specs.Refusals.{_if_, _else_, mostClauses}
 use Rattle.stores.specs.Lists.{Lists}
 use Rattle.stores.specs.Over.{over}
 use Rattle.text.specs.Lines.{lines, lineLength}
-use Rattle.text.specs.Writing.{laid}
+use Rattle.text.specs.Writing.{laid, Writes}
 use Rattle.ic3.specs.Demands.{listed, Distinct}
 use Rattle.system.specs.declared.Clause.{Clause}
-use Rattle.circuit.specs.Circuit.{Circuit, Latch, Gate, every, index}
+use Rattle.circuit.specs.Circuit.{Circuit, Latch, Gate, every, any, index}
 use Rattle.circuit.specs.Loops.{loopFree}
-use Rattle.circuit.specs.Refusals.{twice}
-use Rattle.circuit.specs.Import.{Place, here, wire, nowhere, empty, marks, startClauses, latchClauses, gateClauses, flat, importRefusal}
+use Rattle.circuit.specs.Refusals.{twice, wrongStart, rightStarts}
+use Rattle.circuit.specs.Import.{Place, here, wire, nowhere, empty, marks, startClauses, latchClauses, gateClauses, constraintClauses, flat, importRefusal}
 use Rattle.aiger.specs.Numbers.{numbers}
-use Rattle.aiger.specs.Text.{fits, three, Part, broken, whole, withRow, part, firsts, vars, latchesOf, gatesOf, circuitOf, headerOf, uses, Told, malformed, told}
+use Rattle.aiger.specs.Text.{fits, three, Part, broken, whole, withRow, part, firsts, vars, latchesOf, gatesOf, circuitOf, headerOf}
+use Rattle.aiger.specs.Text.{latchForm, uses, singlesOf, Told, malformed, told}
 use Rattle.aiger.specs.Promise.{Result, importedAs}
 use Rattle.aiger.specs.declared.Imported.{Imported}
 use Rattle.aiger.specs.declared.part.Form.{Form}
@@ -28,7 +29,9 @@ use Rattle.aiger.specs.declared.read.Header.{Header}
 use Rattle.aiger.specs.declared.read.Head.{Head}
 use Rattle.aiger.specs.declared.read.Head.the-variants.{Right, Wrong}
 use Rattle.aiger.specs.declared.read.Reading.{Reading}
-use Rattle.aiger.specs.declared.Watched.{Watched}
+use Rattle.aiger.specs.declared.again.Singles.{Singles}
+use Rattle.aiger.specs.declared.again.Watched.{Watched}
+use Rattle.aiger.specs.declared.again.Seen.{Seen}
 
 -- ---- numbers
 -- a line's numbers, r of them, lie in front of the store
@@ -45,9 +48,12 @@ pub record Numbered (line before : List ℕ) (r : ℕ) (after : List ℕ) : Type
   pub lacks : r ≡ 0 → (xs : List ℕ) → numbers line ≡ some xs → length before < length xs
 
 -- ---- parts
+unfoldable pub countFits : Form → ℕ → Bool
+countFits f count = eqb count (f .width) || (f .starts && eqb count (f .width + 1))
+
 -- whether so many numbers are of the form, told of any list that has them
 pub record RowFits (form : Form) (count a b c : ℕ) (r : Bool) : Type 0 where
-  pub other : (count ≡ form .width → ⊥) → r ≡ false
+  pub some-number : r ≡ true → 1 ≤ count
   pub fits : (xs : List ℕ) → length xs ≡ count → count ≤ 3 → three xs ≡ a ∷ (b ∷ (c ∷ [])) → r ≡ fits form xs
 
 -- what is left of a part
@@ -61,6 +67,7 @@ pub record Bounded (s : Progress) : Type 0 where
   pub line : 1 ≤ s .line
   pub some-number : 1 ≤ s .form .width
   pub width : s .form .width ≤ 3
+  pub start : s .form .starts ≡ true → s .form .width ≤ 2
 
 -- a turn can begin at a reader's place, or the part has ended
 pub record Stands (text : List ℕ) (at : ℕ) (s : Progress) : Type 0 where
@@ -106,17 +113,19 @@ pub record Small (h : Header) : Type 0 where
   pub latches : h .latches < 2 ^ 32
   pub outputs : h .outputs < 2 ^ 32
   pub gates : h .gates < 2 ^ 32
+  pub bads : h .bads < 2 ^ 32
+  pub constraints : h .constraints < 2 ^ 32
 
-abbrev pub HeadOf : List ℕ → Head → Type 0
-HeadOf line (Right h) = (headerOf line ≡ some h) × Small h
-HeadOf line Wrong = headerOf line ≡ none
+abbrev pub HeadOf : Bool → List ℕ → Head → Type 0
+HeadOf newer line (Right h) = (headerOf newer line ≡ some h) × Small h
+HeadOf newer line Wrong = headerOf newer line ≡ none
 
 abbrev pub begun : Form → ℕ → ℕ → ℕ → ℕ → Progress
 begun form count line at row =
     record { more = ltb 0 count; fault = false; left = count; line = line; at = at; row = row; form = form }
 
-abbrev pub faultAt : Header → ℕ → Reading
-faultAt header line = record { fault = line; header = header; at = 0; line = 0 }
+abbrev pub faultAt : Header → ℕ → ℕ → Reading
+faultAt header number line = record { number = number; line = line; header = header; latches = 0; singles = 0 }
 
 -- numbers of the most rows
 abbrev pub mostRows : ℕ
@@ -126,38 +135,41 @@ mostRows = 288
 abbrev pub Low : List ℕ → Type 0
 Low latches = every (λ (l : Latch). eqb (l .start) 0) (latchesOf latches) ≡ true
 
--- the outputs are read again from their place
-pub record Again (text : List ℕ) (r : Reading) (outputs : List ℕ) : Type 0 where
-  pub within : r .at ≤ length text
+-- so many lines of one form are read again from their place: their rows, and what stands behind them
+pub record Again (text : List ℕ) (form : Form) (at count : ℕ) (rows : List ℕ) (others : List (List ℕ)) : Type 0 where
+  pub within : at ≤ length text
+  pub from : ℕ
   pub line : ℕ
-  pub others : List (List ℕ)
-  pub says : part (uses (r .header)) (r .header .outputs) (r .line) (lines (drop (r .at) text)) ≡ whole outputs line others
+  pub says : part form count from (lines (drop at text)) ≡ whole rows line others
 
--- the rows of the parts: how many there are, and that the outputs are read again
-pub record Counted (text : List ℕ) (r : Reading) (inputs latches outputs gates : List ℕ) : Type 0 where
+abbrev pub ReadAgain : List ℕ → Form → ℕ → ℕ → List ℕ → Type 0
+ReadAgain text form at count rows = (others : List (List ℕ)) × Again text form at count rows others
+
+-- the rows of the parts: how many there are, and which are read again
+pub record Counted (text : List ℕ) (r : Reading) (inputs latches singles gates : List ℕ) : Type 0 where
   pub small : Small (r .header)
   pub many-inputs : length inputs ≡ 3 * r .header .inputs
   pub many-latches : length latches ≡ 3 * r .header .latches
-  pub many-outputs : length outputs ≡ 3 * r .header .outputs
+  pub many-singles : length singles ≡ 3 * singlesOf (r .header)
   pub many-gates : length gates ≡ 3 * r .header .gates
-  pub low : Low latches
-  pub again : Again text r outputs
+  pub latches-again : ReadAgain text (latchForm (r .header)) (r .latches) (r .header .latches) latches
+  pub singles-again : ReadAgain text (uses (r .header)) (r .singles) (singlesOf (r .header)) singles
 
 -- the form is right: what was read, and where it was written
 pub record Kept (text : List ℕ) (what : Told) (before : List ℕ) (r : Reading) (after : List ℕ) : Type 0 where
   pub inputs : List ℕ
   pub latches : List ℕ
-  pub outputs : List ℕ
+  pub singles : List ℕ
   pub gates : List ℕ
-  pub says : what ≡ told (r .header .m) (circuitOf inputs latches outputs gates)
-  pub counted : Counted text r inputs latches outputs gates
+  pub says : what ≡ told (r .header .m) (circuitOf (r .header) inputs latches singles gates)
+  pub counted : Counted text r inputs latches singles gates
   pub content :
       after ≡ laid (3 * r .header .latches + 3 * r .header .inputs) gates (laid 0 latches (laid (3 * r .header .latches) inputs before))
 
 pub record ReadAs (text : List ℕ) (what : Told) (before : List ℕ) (r : Reading) (after : List ℕ) : Type 0 where
   pub same : length after ≡ length before
-  pub wrong : (r .fault ≡ 0 → ⊥) → what ≡ malformed (r .fault)
-  pub right : r .fault ≡ 0 → Kept text what before r after
+  pub wrong : (r .number ≡ 0 → ⊥) → what ≡ malformed (r .number) (r .line)
+  pub right : r .number ≡ 0 → Kept text what before r after
 
 -- ---- variables
 -- so many rows of three
@@ -180,6 +192,9 @@ LoopFree gates r = Distinct (vars gates) → r ≡ loopFree (gatesOf gates)
 -- the place of the row with index k, where the first rows are latches
 unfoldable pub placeAt : ℕ → ℕ → Place
 placeAt latches k = elim (ltb k latches) [ true ↦ here k | false ↦ wire (k - latches) ]
+
+abbrev pub startingAt : ℕ → Latch
+startingAt start = record { var = 0; next = 0; start = start }
 
 abbrev pub latchOf : ℕ → Latch
 latchOf next = record { var = 0; next = next; start = 0 }
@@ -205,25 +220,75 @@ placeBy rows latches = placeIn (vars rows) latches
 unfoldable pub startList : List ℕ → List ℕ
 startList latches = flat (startClauses 0 (latchesOf latches))
 
-unfoldable pub stepList : List ℕ → List ℕ → List ℕ → List ℕ
-stepList rows latches gates =
-    flat (latchClauses (placeBy rows (length latches / 3)) 0 (latchesOf latches))
-    ++ flat (gateClauses (placeBy rows (length latches / 3)) (gatesOf gates))
+unfoldable pub stepList : List ℕ → List ℕ → List ℕ → List ℕ → List ℕ
+stepList rows latches gates constraints =
+    (flat (latchClauses (placeBy rows (length latches / 3)) 0 (latchesOf latches))
+    ++ flat (gateClauses (placeBy rows (length latches / 3)) (gatesOf gates)))
+    ++ flat (constraintClauses (placeBy rows (length latches / 3)) constraints)
 
-unfoldable pub badList : List ℕ → ℕ → List ℕ → Clause → List ℕ
-badList rows latches gates outputs = flat (outputs ∷ []) ++ flat (gateClauses (placeBy rows latches) (gatesOf gates))
+unfoldable pub badList : List ℕ → ℕ → List ℕ → List ℕ → Clause → List ℕ
+badList rows latches gates constraints watched =
+    (flat (watched ∷ []) ++ flat (gateClauses (placeBy rows latches) (gatesOf gates))) ++ flat (constraintClauses (placeBy rows latches) constraints)
 
 -- a list in front of its store, if there is room for it, and zeros behind it
 pub record Entered (list before : List ℕ) (r : ℕ) (after : List ℕ) : Type 0 where
   pub end : r ≡ length list
   pub content : length list ≤ length before → after ≡ over list before
 
+-- ---- lines read again
+-- what is said of rows of latches, and of literals that stand alone, wherever they can be read
+abbrev pub RightStarts : List ℕ → ℕ → ℕ → ℕ → Type 0
+RightStarts text at count r =
+    (h : Header) (latches : List ℕ) → ReadAgain text (latchForm h) at count latches → r ≡ rightStarts (latchesOf latches)
+
+pub record Watches (text : List ℕ) (s : Singles) (rows : List ℕ) (latches : ℕ) (q : Watched) : Type 0 where
+  pub within : q .at ≤ length text
+  pub says : (h : Header) (singles : List ℕ) (others : List (List ℕ)) → Again text (uses h) (s .at) (s .count) singles others
+      → (q .known ≡ every (knownIn (vars rows)) (firsts singles))
+      × (q .clause ≡ marks (placeBy rows latches) empty (firsts singles))
+      × (others ≡ lines (drop (q .at) text))
+
+-- the literals of which one is to be 1, and the constraints
+unfoldable pub watchedOf : Header → List ℕ → List ℕ
+watchedOf h literals = elim (eqb (h .bads) 0) [ true ↦ take (h .outputs) literals | false ↦ take (h .bads) (drop (h .outputs) literals) ]
+
+abbrev pub constraintsOf : Header → List ℕ → List ℕ
+constraintsOf h literals = drop (h .outputs + h .bads) literals
+
+-- these constraints are read again
+pub record Constraints (text : List ℕ) (s : Singles) (literals : List ℕ) : Type 0 where
+  pub header : Header
+  pub rows : List ℕ
+  pub again : ReadAgain text (uses header) (s .at) (s .count) rows
+  pub literals-are : literals ≡ firsts rows
+
+pub record Sees (text : List ℕ) (h : Header) (at : ℕ) (rows : List ℕ) (latches : ℕ) (q : Seen) : Type 0 where
+  pub within : q .constraints .at ≤ length text
+  pub count : q .constraints .count ≡ h .constraints
+  pub says : (singles : List ℕ) → ReadAgain text (uses h) at (singlesOf h) singles
+      → (q .known ≡ every (knownIn (vars rows)) (firsts singles))
+      × (q .watched ≡ marks (placeBy rows latches) empty (watchedOf h (firsts singles)))
+      × Constraints text (q .constraints) (constraintsOf h (firsts singles))
+
+pub record PutsConstraints (text : List ℕ) (s : Singles) (place : ℕ → Place) (from : ℕ) (before : List ℕ) (r : ℕ) (after : List ℕ) : Type 0 where
+  pub same : length after ≡ length before
+  pub says : (literals : List ℕ) → Constraints text s literals → Writes from (flat (constraintClauses place literals)) before r after
+
+-- lists that are entered with these constraints
+abbrev pub EntersStep : List ℕ → Singles → List ℕ → List ℕ → List ℕ → List ℕ → ℕ → List ℕ → Type 0
+EntersStep text s rows latches gates before r after =
+    (literals : List ℕ) → Constraints text s literals → Entered (stepList rows latches gates literals) before r after
+
+abbrev pub EntersBad : List ℕ → Singles → List ℕ → ℕ → List ℕ → Clause → List ℕ → ℕ → List ℕ → Type 0
+EntersBad text s rows latches gates watched before r after =
+    (literals : List ℕ) → Constraints text s literals → Entered (badList rows latches gates literals watched) before r after
+
 -- ---- the refusals in their order
+unfoldable pub tooFew : Header → Bool
+tooFew h = ltb (h .m) (h .inputs + h .latches + h .gates)
+
 unfoldable pub headerRefusal : Header → ℕ
-headerRefusal h =
-    21 if ltb (h .m) (h .inputs + h .latches + h .gates)
-    else 22 if eqb (h .latches) 0 || ltb 32 (h .latches)
-    else 23 if ltb 64 (h .inputs + h .gates)
+headerRefusal h = 22 if eqb (h .latches) 0 || ltb 32 (h .latches) else 23 if ltb 64 (h .inputs + h .gates)
 
 -- a header that is not refused
 pub record Limits (h : Header) : Type 0 where
@@ -233,49 +298,48 @@ pub record Limits (h : Header) : Type 0 where
 pub record Sized (h : Header) (rows : List ℕ) : Type 0 where
   pub limits : Limits h
   pub many : length rows ≡ 3 * (h .latches + h .inputs + h .gates)
-  pub low : Low (take (3 * h .latches) rows)
 
--- what is judged: the rows of latches, inputs and gates, and the outputs
+-- what is judged: the rows of latches, inputs and gates, and the literals that stand alone
 pub record Held (text : List ℕ) (r : Reading) (rows : List ℕ) : Type 0 where
   pub inputs : List ℕ
   pub latches : List ℕ
-  pub outputs : List ℕ
+  pub singles : List ℕ
   pub gates : List ℕ
-  pub counted : Counted text r inputs latches outputs gates
+  pub counted : Counted text r inputs latches singles gates
   pub content : rows ≡ latches ++ (inputs ++ gates)
+  pub enough : tooFew (r .header) ≡ false
+  pub right : any wrongStart (latchesOf latches) ≡ false
   pub header : headerRefusal (r .header) ≡ 0
 
 abbrev pub circuitIn : {text : List ℕ} {r : Reading} {rows : List ℕ} → Held text r rows → Circuit
-circuitIn h = circuitOf (h .inputs) (h .latches) (h .outputs) (h .gates)
-
--- the outputs can be read again, and the rows are right for clauses
-pub record Outputs (text : List ℕ) (r : Reading) (rows : List ℕ) (latches : ℕ) : Type 0 where
-  pub fits : Fits rows latches
-  pub outputs : List ℕ
-  pub again : Again text r outputs
-
-abbrev pub Watches : List ℕ → Reading → List ℕ → ℕ → Watched → Type 0
-Watches text r rows latches q =
-    (outputs : List ℕ) → Again text r outputs → (q .known ≡ every (knownIn (vars rows)) (firsts outputs))
-    × (q .clause ≡ marks (placeBy rows latches) empty (firsts outputs))
+circuitIn {r = r} h = circuitOf (r .header) (h .inputs) (h .latches) (h .singles) (h .gates)
 
 unfoldable pub wrongRows : List ℕ → Header → Bool
 wrongRows rows h =
     twice (vars rows)
     || (not (allKnown (vars rows) (take (3 * h .latches) rows)) || not (allKnown (vars rows) (drop (3 * (h .latches + h .inputs)) rows)))
 
-unfoldable pub short : Header → ℕ → ℕ → ℕ → Bool
-short h start step bad =
-    ltb start (4 * h .latches) || (ltb step (4 * (2 * h .latches + 3 * h .gates)) || ltb bad (4 * (1 + 3 * h .gates)))
+-- the clauses that step and bad share
+abbrev pub sharedCount : Header → ℕ
+sharedCount h = 3 * h .gates + h .constraints
+
+unfoldable pub short : Header → ℕ → ℕ → ℕ → ℕ → Bool
+short h first start step bad = ltb start first || (ltb step (4 * (2 * h .latches + sharedCount h)) || ltb bad (4 * (1 + sharedCount h)))
+
+unfoldable pub lastRefusal : Header → List ℕ → ℕ → ℕ → ℕ → ℕ
+lastRefusal h latches start step bad =
+    26 if eqb (h .outputs) 0 && eqb (h .bads) 0
+    else 32 if short h (length (startList latches)) start step bad
+    else 2 if ltb mostClauses (2 * h .latches + sharedCount h)
 
 -- the lists are entered, if each store has room
-pub record Enters (rows : List ℕ) (h : Header) (outputs : Clause) (lent : Lists) (r : Imported) (after : Lists) : Type 0 where
+pub record Enters (text : List ℕ) (s : Singles) (rows : List ℕ) (h : Header) (watched : Clause) (lent : Lists) (r : Imported) (after : Lists) : Type 0 where
   pub number : (r .number ≡ 0) × (r .line ≡ 0)
   pub sizes : (r .n ≡ h .latches) × (r .w ≡ h .inputs + h .gates)
   pub start : Entered (startList (take (3 * h .latches) rows)) (lent .start) (r .start) (after .start)
   pub step :
-      Entered (stepList rows (take (3 * h .latches) rows) (drop (3 * (h .latches + h .inputs)) rows)) (lent .step) (r .step) (after .step)
-  pub bad : Entered (badList rows (h .latches) (drop (3 * (h .latches + h .inputs)) rows) outputs) (lent .bad) (r .bad) (after .bad)
+      EntersStep text s rows (take (3 * h .latches) rows) (drop (3 * (h .latches + h .inputs)) rows) (lent .step) (r .step) (after .step)
+  pub bad : EntersBad text s rows (h .latches) (drop (3 * (h .latches + h .inputs)) rows) watched (lent .bad) (r .bad) (after .bad)
 
 -- what was held is imported or refused
 abbrev pub Judges : List ℕ → Reading → List ℕ → Lists → Imported → Lists → Type 0

@@ -2,13 +2,16 @@
 // is inverted. The first rows are the latches', so the index of a variable's row says where it stands.
 ghost use mathlib.Core.List.{[], _∷_};
 ghost use mathlib.Core.Path.{_≡_};
-ghost use Prim.Native.Nat.{_+_, _/_, _≤_, _<_, _^_};
+ghost use Prim.Native.Nat.{_+_, _*_, _/_, _≤_, _<_, _^_};
 ghost use lib.ListN.{length};
 ghost use Rattle.text.specs.Writing.{Writes};
 ghost use Rattle.circuit.specs.Import.{here, withPlace, empty, mark, startClauses, latchClauses, gateClauses, flat};
 ghost use Rattle.aiger.specs.Text.{latchesOf, gatesOf};
-ghost use Rattle.aiger.specs.Contracts.{placeAt, placeBy, latchOf, gateOf, Low, Fits, startList, stepList, badList, Entered};
+ghost use Rattle.aiger.specs.Contracts.{placeAt, placeBy, startingAt, latchOf, gateOf, Fits, startList, Entered};
+ghost use Rattle.aiger.specs.Contracts.{PutsConstraints, EntersStep, EntersBad};
+use super::again::Singles;
 use super::find::find;
+use super::numbers::numbers;
 use super::part::put;
 use masks::Mask;
 use system::Clause;
@@ -88,25 +91,59 @@ fn put_clause(store: &mut [u64], at: usize, m: Clause) -> usize
     put(store, next, zeros.wires)
 }
 
-// Start: every latch is 0.
+// The clause of latch k by its start value; none for "either".
+fn put_first(k: usize, start: u64, store: &mut [u64], at: usize) -> usize
+    requires { ⌜ (k < 32) × (at < 2 ^ 32) ⌝ }
+    ensures { λ r. ⌜ Writes at (flat (startClauses k (startingAt start ∷ []))) (now (store .entry)) r (now (store .exit)) ⌝ }
+{
+    if 1 < start {
+        return at;
+    }
+    let Clause { ones, zeros } = no_literal();
+    if start == 1 {
+        let m = Clause {
+            ones: with_bit(ones, k),
+            zeros,
+        };
+        return put_clause(store, at, m);
+    }
+    let m = Clause {
+        ones,
+        zeros: with_bit(zeros, k),
+    };
+    put_clause(store, at, m)
+}
+
+// Start: every latch has its start value.
 fn put_start(latches: &[u64], store: &mut [u64]) -> usize
-    requires { ⌜ Low (now latches) × (length (now latches) ≤ 96) ⌝ }
+    requires { ⌜ length (now latches) ≤ 96 ⌝ }
     ensures { λ r. ⌜ Writes 0 (flat (startClauses 0 (latchesOf (now (latches .entry))))) (now (store .entry)) r (now (store .exit)) ⌝ }
 {
     let mut at = 0;
     let mut k = 0;
     let mut i = 0;
     while i + 2 < latches.len() {
-        let Clause { ones, zeros } = no_literal();
-        let m = Clause {
-            ones,
-            zeros: with_bit(zeros, k),
-        };
-        at = put_clause(store, at, m);
+        at = put_first(k, latches[i + 2], store, at);
         k += 1;
         i += 3;
     }
     at
+}
+
+// How many latches have a fixed start value.
+pub(super) fn fixed_starts(latches: &[u64]) -> usize
+    requires { ⌜ length (now latches) ≤ 96 ⌝ }
+    ensures { λ r. ⌜ 4 * r ≡ length (startList (now (latches .entry))) ⌝ }
+{
+    let mut count = 0;
+    let mut i = 0;
+    while i + 2 < latches.len() {
+        if latches[i + 2] <= 1 {
+            count += 1;
+        }
+        i += 3;
+    }
+    count
 }
 
 // The two clauses of latch k: its bit one step later equals the literal.
@@ -198,9 +235,39 @@ fn put_gates(rows: &[u64], latches: usize, gates: &[u64], store: &mut [u64], fro
     at
 }
 
+// One clause a constraint; their lines are read again.
+fn put_constraints(
+    text: &[u8],
+    c: Singles,
+    rows: &[u64],
+    latches: usize,
+    store: &mut [u64],
+    from: usize,
+) -> usize
+    requires { ⌜ Fits (now rows) latches × (c .at ≤ length (now text)) × (c .count ≤ 4096) × (from < 2 ^ 16) ⌝ }
+    ensures { λ r. ⌜
+        PutsConstraints (now (text .entry)) c (placeBy (now (rows .entry)) latches) from (now (store .entry)) r (now (store .exit))
+        ⌝ }
+{
+    let mut at = c.at;
+    let mut left = c.count;
+    let mut end = from;
+    while 0 < left {
+        let len = text::line_length(text, at);
+        let mut row = [0u64; 3];
+        numbers(&text[at..at + len], &mut row);
+        let l = row[0];
+        let m = with_literal(rows, latches, no_literal(), l / 2, l % 2);
+        end = put_clause(store, end, m);
+        at += len;
+        left -= 1;
+    }
+    end
+}
+
 // The list of start in front of its store, and zeros behind it; how many masks it has.
 pub(super) fn enter_start(latches: &[u64], store: &mut [u64]) -> usize
-    requires { ⌜ Low (now latches) × (length (now latches) ≤ 96) ⌝ }
+    requires { ⌜ length (now latches) ≤ 96 ⌝ }
     ensures { λ r. ⌜ Entered (startList (now (latches .entry))) (now (store .entry)) r (now (store .exit)) ⌝ }
 {
     let end = put_start(latches, store);
@@ -208,34 +275,48 @@ pub(super) fn enter_start(latches: &[u64], store: &mut [u64]) -> usize
     end
 }
 
-// The list of step: two clauses a latch, then three a gate.
-pub(super) fn enter_step(rows: &[u64], latches: &[u64], gates: &[u64], store: &mut [u64]) -> usize
-    requires { ⌜ Fits (now rows) (length (now latches) / 3) × (length (now gates) ≤ 192) ⌝ }
+// The list of step: two clauses a latch, then three a gate and one a constraint.
+pub(super) fn enter_step(
+    text: &[u8],
+    c: Singles,
+    rows: &[u64],
+    latches: &[u64],
+    gates: &[u64],
+    store: &mut [u64],
+) -> usize
+    requires { ⌜
+        Fits (now rows) (length (now latches) / 3) × (length (now gates) ≤ 192) × (c .at ≤ length (now text)) × (c .count ≤ 4096)
+        ⌝ }
     ensures { λ r. ⌜
-        Entered (stepList (now (rows .entry)) (now (latches .entry)) (now (gates .entry))) (now (store .entry)) r (now (store .exit))
+        EntersStep (now (text .entry)) c (now (rows .entry)) (now (latches .entry)) (now (gates .entry)) (now (store .entry)) r (now (store .exit))
         ⌝ }
 {
+    let count = latches.len() / 3;
     let end = put_latches(rows, latches, store);
-    let end = put_gates(rows, latches.len() / 3, gates, store, end);
+    let end = put_gates(rows, count, gates, store, end);
+    let end = put_constraints(text, c, rows, count, store, end);
     stores::clear_behind(store, end);
     end
 }
 
-// The list of bad: the clause of the outputs, then three clauses a gate.
+// The list of bad: the clause of what is watched, then three a gate and one a constraint.
 pub(super) fn enter_bad(
+    text: &[u8],
+    c: Singles,
     rows: &[u64],
     latches: usize,
     gates: &[u64],
-    outputs: Clause,
+    watched: Clause,
     store: &mut [u64],
 ) -> usize
-    requires { ⌜ Fits (now rows) latches × (length (now gates) ≤ 192) ⌝ }
+    requires { ⌜ Fits (now rows) latches × (length (now gates) ≤ 192) × (c .at ≤ length (now text)) × (c .count ≤ 4096) ⌝ }
     ensures { λ r. ⌜
-        Entered (badList (now (rows .entry)) latches (now (gates .entry)) outputs) (now (store .entry)) r (now (store .exit))
+        EntersBad (now (text .entry)) c (now (rows .entry)) latches (now (gates .entry)) watched (now (store .entry)) r (now (store .exit))
         ⌝ }
 {
-    let end = put_clause(store, 0, outputs);
+    let end = put_clause(store, 0, watched);
     let end = put_gates(rows, latches, gates, store, end);
+    let end = put_constraints(text, c, rows, latches, store, end);
     stores::clear_behind(store, end);
     end
 }

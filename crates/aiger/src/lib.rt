@@ -1,7 +1,9 @@
-// AIGER, ASCII, first edition: a circuit is read from a text into three lent clause stores. It takes every text and every store. It answers n, w and
-// the counts of masks, with each list in front of its store and zeros behind it; or it refuses with a number and a line, and leaves the stores
-// untouched. So nothing is written before the last refusal. The text is read by its form in read.rt, line by line in part.rt and numbers.rt;
-// variables are found in find.rt, clauses written in clauses.rt; here are the refusals in their order.
+// AIGER, ASCII, first edition and newer: a circuit is read from a text into three lent clause stores. It takes every text and every store. It answers n,
+// w and the counts of masks, with each list in front of its store and zeros behind it; or it refuses with a number and a line, and leaves the stores
+// untouched. So nothing is written before the last refusal. The text is read by its form in read.rt, line by line in part.rt and numbers.rt, and
+// lines without number again in again.rt; variables are found in find.rt, clauses written in clauses.rt; here are the refusals in their order. The
+// first edition is the newer one with nothing further, so both readers are one.
+mod again;
 mod clauses;
 mod find;
 mod numbers;
@@ -9,19 +11,23 @@ mod part;
 mod read;
 
 ghost use mathlib.Core.Path.{_≡_};
+ghost use Prim.Native.Nat.{_≤_};
+ghost use lib.ListN.{length};
 ghost use Rattle.stores.specs.Lists.{lists};
+ghost use Rattle.aiger.specs.Text.{firstEdition, newerEdition};
 ghost use Rattle.aiger.specs.Promise.{Imports, refusedAt};
-ghost use Rattle.aiger.specs.Contracts.{Small, headerRefusal, Limits, Sized, Held, Outputs, Watches, wrongRows, short, Enters, Judges};
+ghost use Rattle.aiger.specs.Contracts.{Small, tooFew, headerRefusal, Limits, Sized, Held, wrongRows, short, lastRefusal, Enters, Judges};
+use again::Seen;
+use again::Singles;
+use again::right_starts;
+use again::see;
 use clauses::enter_bad;
 use clauses::enter_start;
 use clauses::enter_step;
-use clauses::no_literal;
-use clauses::with_literal;
+use clauses::fixed_starts;
 use find::all_known;
 use find::defined_twice;
-use find::is_known;
 use find::loop_free;
-use numbers::numbers;
 use read::Header;
 use read::Reading;
 use read::read;
@@ -56,14 +62,19 @@ fn refused_at(number: u32, line: usize) -> Imported
     }
 }
 
-// Refusals 21 to 23.
+// Refusal 21.
+fn too_few(h: Header) -> bool
+    requires { ⌜ Small h ⌝ }
+    ensures { λ r. ⌜ r ≡ tooFew h ⌝ }
+{
+    h.m < h.inputs + h.latches + h.gates
+}
+
+// Refusals 22 and 23.
 fn header_refusal(h: Header) -> u32
     requires { ⌜ Small h ⌝ }
     ensures { λ r. ⌜ r ≡ headerRefusal h ⌝ }
 {
-    if h.m < h.inputs + h.latches + h.gates {
-        return 21;
-    }
     if h.latches == 0 {
         return 22;
     }
@@ -76,65 +87,55 @@ fn header_refusal(h: Header) -> u32
     0
 }
 
-// Whether all outputs are known, and the clause that one of them is 1.
-struct Watched {
-    known: bool,
-    clause: Clause,
-}
-
-// The outputs, read again.
-fn watch(text: &[u8], r: Reading, rows: &[u64], latches: usize) -> Watched
-    requires { ⌜ Outputs (now text) r (now rows) latches ⌝ }
-    ensures { λ q. ⌜ Watches (now (text .entry)) r (now (rows .entry)) latches q ⌝ }
-{
-    let header = r.header;
-    let mut at = r.at;
-    let mut left = header.outputs;
-    let mut known = true;
-    let mut clause = no_literal();
-    while 0 < left {
-        let len = text::line_length(text, at);
-        let mut row = [0u64; 3];
-        numbers(&text[at..at + len], &mut row);
-        let l = row[0];
-        known = known && is_known(rows, l);
-        clause = with_literal(rows, latches, clause, l / 2, l % 2);
-        at += len;
-        left -= 1;
-    }
-    Watched { known, clause }
-}
-
-// Refusal 32: a store is shorter than its list.
-fn too_short(h: Header, start: usize, step: usize, bad: usize) -> bool
-    requires { ⌜ Limits h ⌝ }
-    ensures { λ r. ⌜ r ≡ short h start step bad ⌝ }
+// Refusal 32: a store is shorter than its list, of which that of start has so many masks.
+fn too_short(h: Header, first: usize, start: usize, step: usize, bad: usize) -> bool
+    requires { ⌜ Small h × Limits h ⌝ }
+    ensures { λ r. ⌜ r ≡ short h first start step bad ⌝ }
 {
     let latches = h.latches as usize;
-    let gates = h.gates as usize;
-    start < 4 * latches || (step < 4 * (2 * latches + 3 * gates) || bad < 4 * (1 + 3 * gates))
+    let shared = 3 * h.gates as usize + h.constraints as usize;
+    start < first || (step < 4 * (2 * latches + shared) || bad < 4 * (1 + shared))
+}
+
+// Refusals from 26 on: 26, 32, and of the system's own the only one that can come, a list that is too long.
+fn last_refusal(h: Header, latches: &[u64], start: usize, step: usize, bad: usize) -> u32
+    requires { ⌜ Small h × Limits h × (length (now latches) ≤ 96) ⌝ }
+    ensures { λ r. ⌜ r ≡ lastRefusal h (now (latches .entry)) start step bad ⌝ }
+{
+    if h.outputs == 0 && h.bads == 0 {
+        return 26;
+    }
+    if too_short(h, 4 * fixed_starts(latches), start, step, bad) {
+        return 32;
+    }
+    if 4096 < 2 * h.latches + (3 * h.gates + h.constraints) {
+        return 2;
+    }
+    0
 }
 
 // The lists, each in front of its store and zeros behind it.
 fn enter(
+    text: &[u8],
+    c: Singles,
     rows: &[u64],
     h: Header,
-    outputs: Clause,
+    watched: Clause,
     start: &mut [u64],
     step: &mut [u64],
     bad: &mut [u64],
 ) -> Imported
-    requires { ⌜ Sized h (now rows) ⌝ }
+    requires { ⌜ Sized h (now rows) × (c .at ≤ length (now text)) × (c .count ≤ 4096) ⌝ }
     ensures { λ r. ⌜
-        Enters (now (rows .entry)) h outputs (lists (now (start .entry)) (now (step .entry)) (now (bad .entry)))
+        Enters (now (text .entry)) c (now (rows .entry)) h watched (lists (now (start .entry)) (now (step .entry)) (now (bad .entry)))
         r (lists (now (start .exit)) (now (step .exit)) (now (bad .exit)))
         ⌝ }
 {
     let gates = &rows[3 * (h.latches + h.inputs) as usize..];
     let latches = &rows[..3 * h.latches as usize];
     let i = enter_start(latches, start);
-    let t = enter_step(rows, latches, gates, step);
-    let b = enter_bad(rows, h.latches as usize, gates, outputs, bad);
+    let t = enter_step(text, c, rows, latches, gates, step);
+    let b = enter_bad(text, c, rows, h.latches as usize, gates, watched, bad);
     Imported {
         number: 0,
         line: 0,
@@ -175,39 +176,76 @@ fn judge(
     if wrong_rows(rows, h) {
         return refused_at(24, 0);
     }
-    let Watched { known, clause } = watch(text, r, rows, h.latches as usize);
+    let Seen {
+        known,
+        watched,
+        constraints,
+    } = see(text, h, r.singles, rows, h.latches as usize);
     if !known {
         return refused_at(24, 0);
     }
     if !loop_free(&rows[3 * (h.latches + h.inputs) as usize..]) {
         return refused_at(25, 0);
     }
-    if h.outputs == 0 {
-        return refused_at(26, 1);
+    let latches = &rows[..3 * h.latches as usize];
+    let number = last_refusal(h, latches, start.len(), step.len(), bad.len());
+    if number != 0 {
+        return refused_at(number, if number == 26 { 1 } else { 0 });
     }
-    if too_short(h, start.len(), step.len(), bad.len()) {
-        return refused_at(32, 0);
-    }
-    enter(rows, h, clause, start, step, bad)
+    enter(text, constraints, rows, h, watched, start, step, bad)
 }
 
-// A circuit: its n, w and lists, or the first refusal and its line. After a refusal the stores are untouched; else all behind each list is zero.
-pub fn import(text: &[u8], start: &mut [u64], step: &mut [u64], bad: &mut [u64]) -> Imported
+// A circuit of this edition or of the first.
+fn import_as(
+    newer: bool,
+    text: &[u8],
+    start: &mut [u64],
+    step: &mut [u64],
+    bad: &mut [u64],
+) -> Imported
     ensures { λ r. ⌜
-        Imports (now (text .entry)) (lists (now (start .entry)) (now (step .entry)) (now (bad .entry)))
+        Imports newer (now (text .entry)) (lists (now (start .entry)) (now (step .entry)) (now (bad .entry)))
         r (lists (now (start .exit)) (now (step .exit)) (now (bad .exit)))
         ⌝ }
 {
     let mut rows = [0u64; ROWS];
-    let r = read(text, &mut rows);
-    if r.fault != 0 {
-        return refused_at(20, r.fault);
+    let r = read(newer, text, &mut rows);
+    if r.number != 0 {
+        return refused_at(r.number, r.line);
     }
     let h = r.header;
+    if too_few(h) {
+        return refused_at(21, 1);
+    }
+    let right = right_starts(text, r.latches, h.latches);
+    if right < h.latches {
+        return refused_at(28, (2 + h.inputs + right) as usize);
+    }
     let number = header_refusal(h);
     if number != 0 {
         return refused_at(number, 1);
     }
     let count = 3 * (h.latches + h.inputs + h.gates) as usize;
     judge(text, r, &rows[..count], start, step, bad)
+}
+
+// A circuit of the first edition: its n, w and lists, or the first refusal and its line. After a refusal the stores are untouched; else all behind each
+// list is zero.
+pub fn import(text: &[u8], start: &mut [u64], step: &mut [u64], bad: &mut [u64]) -> Imported
+    ensures { λ r. ⌜
+        Imports firstEdition (now (text .entry)) (lists (now (start .entry)) (now (step .entry)) (now (bad .entry)))
+        r (lists (now (start .exit)) (now (step .exit)) (now (bad .exit)))
+        ⌝ }
+{
+    import_as(false, text, start, step, bad)
+}
+
+// The same of the newer edition; what the first takes it reads alike.
+pub fn import_newer(text: &[u8], start: &mut [u64], step: &mut [u64], bad: &mut [u64]) -> Imported
+    ensures { λ r. ⌜
+        Imports newerEdition (now (text .entry)) (lists (now (start .entry)) (now (step .entry)) (now (bad .entry)))
+        r (lists (now (start .exit)) (now (step .exit)) (now (bad .exit)))
+        ⌝ }
+{
+    import_as(true, text, start, step, bad)
 }

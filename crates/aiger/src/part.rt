@@ -1,15 +1,18 @@
 // Lines of one form, one after the other: each gives a row of three numbers, which are written into a lent store as far as it reaches. A reader keeps
 // the text and its place in it, and its place moves by a line a turn.
 ghost use mathlib.Core.List.{[], _∷_};
-ghost use Prim.Native.Nat.{_<_, _^_};
+ghost use mathlib.Core.Path.{_≡_};
+ghost use Prim.Native.Nat.{_≤_, _<_, _^_};
 ghost use Rattle.text.specs.Writing.{Writes};
-ghost use Rattle.aiger.specs.Contracts.{RowFits, Begins, GoesOn, Turned, Takes};
+ghost use Rattle.aiger.specs.Contracts.{countFits, RowFits, Begins, GoesOn, Turned, Takes};
 use super::numbers::numbers;
 use text::Reader;
 
-// What a line has to be: how many numbers it has, whether the first defines a variable, and the largest literal.
+// What a line has to be: how many literals it has, whether a start value may stand behind them, whether the first defines a variable, and the largest
+// literal.
 pub(super) struct Form {
     pub(super) width: usize,
+    pub(super) starts: bool,
     pub(super) defines: bool,
     pub(super) most: u64,
 }
@@ -26,17 +29,27 @@ pub(super) struct Progress {
     pub(super) form: Form,
 }
 
-// Whether so many numbers are of the form; those behind the last are 0.
+// Whether a line of this form can have so many numbers.
+fn count_fits(form: Form, count: usize) -> bool
+    requires { ⌜ form .width ≤ 3 ⌝ }
+    ensures { λ r. ⌜ r ≡ countFits form count ⌝ }
+{
+    count == form.width || (form.starts && count == form.width + 1)
+}
+
+// Whether so many numbers are of the form; those behind the last are 0, and a start value may be any.
 fn row_fits(form: Form, count: usize, a: u64, b: u64, c: u64) -> bool
+    requires { ⌜ (1 ≤ form .width) × (form .width ≤ 3) ⌝ }
     ensures { λ r. ⌜ RowFits form count a b c r ⌝ }
 {
-    if count != form.width {
+    if !count_fits(form, count) {
         return false;
     }
     if form.defines && (a % 2 != 0 || a == 0) {
         return false;
     }
-    a <= form.most && b <= form.most && c <= form.most
+    let most = form.most;
+    a <= most && (form.width < 2 || b <= most) && (form.width < 3 || c <= most)
 }
 
 // One number at this index, if the store reaches so far.

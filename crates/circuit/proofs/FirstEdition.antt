@@ -1,24 +1,23 @@
 -- Circuits of the first edition: every latch starts at 0, and there are no bad-state lines and no constraints. Then all of a start state's bits are
 -- 0, and an empty list asks nothing of the values: a step leads to the next state under some inputs, and a state is bad if some inputs make an output
 -- 1. Assumes nothing.
-use Prim.Native.Nat.{ℕ, zero, suc, _+_, _^_, _<_}
-use mathlib.Core.Path.{_≡_, refl, sym, ap, ap₂, _∙_}
+use Prim.Native.Nat.{ℕ, zero, suc, _^_, _<_}
+use mathlib.Core.Path.{_≡_, refl, sym, ap, _∙_}
 use mathlib.Core.Logic.{_↔_}
 use mathlib.Core.Bool.{Bool, true, _&&_, and-true}
 use mathlib.Core.List.{List, [], _∷_}
-use native.Mathlib.Nat.{zero-add}
 use native.Mathlib.Omega.{arith}
-use borrow.Author.Tests.{eqb-true, eqb-false, eq-eqb}
+use borrow.Author.Tests.{eqb-true, eqb-false}
 use lib.Dec.{eqb}
-use lib.ListN.{length}
+use lib.ListN.{length, getD}
 use lib.Pow.{pow-pos}
-use Rattle.base.proofs.Tests.{test, both}
+use Rattle.base.proofs.Tests.{test}
 use Rattle.masks.specs.Bit.{bit, somewhere}
 use Rattle.masks.proofs.Bits.{bit-of-zero, bits-below}
 use Rattle.masks.proofs.Somewhere.{somewhere-same}
-use Rattle.ic3.specs.Demands.{HasStart}
-use Rattle.circuit.specs.Circuit.{Circuit, Latch, First, low, high, either, first, literal, every, any, values, starts, nextState, constrained, watched, meaning}
+use Rattle.circuit.specs.Circuit.{Circuit, Latch, First, low, high, either, first, literal, every, any, values, nextState, constrained, watched, meaning}
 use Rattle.circuit.proofs.Sentences.{fixed}
+use Rattle.circuit.proofs.Starts.{firsts, start-bits}
 
 abbrev pub AllLow : List Latch → Type 0
 AllLow [] = Unit {0}
@@ -40,37 +39,18 @@ unfolding fixed
 fixed-low [] z = refl
 fixed-low (l ∷ ls) z = rw (first-low l (z .0), fixed) (ap suc (fixed-low ls (z .1)))
 
-starts-low : (k : ℕ) (ls : List Latch) → AllLow ls → (s : ℕ)
-    → (starts k ls s ≡ true) ↔ ((j : ℕ) → j < length ls → bit s (k + j) ≡ 0)
-unfolding starts
-starts-low k [] z s = (λ e j h. absurd (omega arith), λ f. refl)
-starts-low k (l ∷ ls) z s = (there (starts-low (suc k) ls (z .1) s .0), back (starts-low (suc k) ls (z .1) s .1))
-  where
-    there : (starts (suc k) ls s ≡ true → (j : ℕ) → j < length ls → bit s (suc k + j) ≡ 0)
-        → starts k (l ∷ ls) s ≡ true → (j : ℕ) → j < suc (length ls) → bit s (k + j) ≡ 0
-    there ih e zero h =
-        let p = both (eqb (bit s k) 0) (starts (suc k) ls s) (rw (first-low l (z .0), starts) at e) in
-        let q : k + 0 ≡ k = omega arith in
-        rw q (eqb-true (bit s k) 0 (p .0))
-    there ih e (suc j) h =
-        let p = both (eqb (bit s k) 0) (starts (suc k) ls s) (rw (first-low l (z .0), starts) at e) in
-        let q : suc k + j ≡ k + suc j = omega arith in
-        rw (← q) (ih (p .1) j (omega arith))
-
-    back : (((j : ℕ) → j < length ls → bit s (suc k + j) ≡ 0) → starts (suc k) ls s ≡ true)
-        → ((j : ℕ) → j < suc (length ls) → bit s (k + j) ≡ 0) → starts k (l ∷ ls) s ≡ true
-    back ih f =
-        rw (first-low l (z .0), starts)
-        (ap₂ (λ (p q : Bool). p && q) (eq-eqb (bit s k) 0 (let q : k + 0 ≡ k = omega arith in rw q at (f 0 (omega arith))))
-        (ih (λ j h. let q : suc k + j ≡ k + suc j = omega arith in rw q (f (suc j) (omega arith)))))
+first-at : (ls : List Latch) → AllLow ls → (k : ℕ) → k < length ls → getD (firsts ls) k either ≡ low
+first-at [] z k h = absurd (omega arith)
+first-at (l ∷ ls) z zero h = first-low l (z .0)
+first-at (l ∷ ls) z (suc k) h = first-at ls (z .1) k (omega arith)
 
 module _ (c : Circuit) (F : FirstEdition c) where
   -- "Latches are state bits in file order and start at 0."
   pub first-start : (s : ℕ) → (meaning c .start s ≡ true) ↔ ((k : ℕ) → k < length (c .latches) → bit s k ≡ 0)
-  unfolding meaning
-  first-start s =
-      let r = starts-low 0 (c .latches) (F .low) s in
-      (λ e k h. rw zero-add at (r .0 e k h), λ f. r .1 (λ j h. rw zero-add (f j h)))
+  first-start s = (
+    λ e k h. rw (first-at (c .latches) (F .low) k h) at (start-bits c s .0 e k h),
+    λ f. start-bits c s .1 (λ k h. rw (first-at (c .latches) (F .low) k h) (f k h)),
+  )
 
   -- one start state, 0
   pub first-zero : (s : ℕ) → s < 2 ^ length (c .latches) → meaning c .start s ≡ eqb s 0
@@ -81,10 +61,6 @@ module _ (c : Circuit) (F : FirstEdition c) where
       (λ q. absurd (eqb-false s 0 e
       (bits-below (length (c .latches)) s 0 h (pow-pos (length (c .latches))) (λ k l. first-start s .0 q k l ∙ sym (bit-of-zero k)))))
       (λ q. q)))
-
-  pub first-has-start : HasStart (meaning c)
-  unfolding meaning
-  first-has-start = record { state = 0; inside = pow-pos (length (c .latches)); starts = first-start 0 .1 (λ k l. bit-of-zero k) }
 
   -- ---- steps and bad states
   -- nothing is asked of the values

@@ -10,6 +10,8 @@ pub mod Import
 pub mod Sentences
 pub mod Own
 pub mod Models
+pub mod Runs
 pub mod Main
+pub mod Starts
 pub mod FirstEdition
 pub mod Examples

@@ -1,15 +1,19 @@
 -- The theorems for callers of an import: its refusals by counts alone, and that the system of a circuit that is not refused has the circuit's own
--- start states, steps and bad states, so that what is shown of the system holds of the circuit. Assumes nothing.
+-- start states, steps and bad states, so that what is shown of the system holds of the circuit, and the system's paths are the circuit's runs. Assumes
+-- nothing.
 use Prim.Native.Nat.{ℕ, _+_, _*_}
 use mathlib.Core.Path.{_≡_}
+use mathlib.Core.Logic.{_↔_}
 use mathlib.Core.Bool.{Bool, _||_}
+use mathlib.Core.List.{List}
 use lib.Dec.{ltb}
 use lib.ListN.{length}
 use Rattle.base.specs.Refusals.{_if_, _else_, mostClauses}
 use Rattle.base.proofs.Refusals.{else-none}
-use Rattle.ic3.specs.Demands.{Doomed, Number}
+use Rattle.ic3.specs.Demands.{IsPath, Doomed, Number}
 use Rattle.system.specs.System.{model, refusalOf}
 use Rattle.circuit.specs.Circuit.{Circuit, meaning}
+use Rattle.circuit.specs.Runs.{Runs}
 use Rattle.circuit.specs.Refusals.{Accepted, circuitRefusal}
 use Rattle.circuit.specs.Import.{imported, importRefusal}
 use Rattle.circuit.specs.Agree.{Agree}
@@ -17,7 +21,8 @@ use Rattle.circuit.proofs.Refusals.{accepted}
 use Rattle.circuit.proofs.Import.{same-size, same-start, same-step, same-bad}
 use Rattle.circuit.proofs.Sentences.{fixed, lengths}
 use Rattle.circuit.proofs.Own.{own-refusal}
-use Rattle.circuit.proofs.Models.{agree-sym, number-agree}
+use Rattle.circuit.proofs.Models.{agree-sym, path-agree, number-agree}
+use Rattle.circuit.proofs.Runs.{paths-are-runs}
 
 -- ---- circuits
 module _ (c : Circuit) (A : Accepted c) where
@@ -66,3 +71,11 @@ module _ (m : ℕ) (c : Circuit) (a b d : ℕ) where
   -- "The imported system must have the circuit's own start states, steps and bad states."
   pub import-right : importRefusal m c a b d ≡ 0 → Agree (model (imported c)) (meaning c)
   import-right e = import-agrees c (import-none e .0)
+
+  -- a path of the system is a run of the circuit with inputs, and the other way round
+  pub import-paths : importRefusal m c a b d ≡ 0 → (path : List ℕ) → IsPath (model (imported c)) path ↔ Runs c path
+  import-paths e path =
+      let A = import-right e in (
+        λ p. paths-are-runs c path .0 (path-agree (model (imported c)) (meaning c) A path p),
+        λ r. path-agree (meaning c) (model (imported c)) (agree-sym A) path (paths-are-runs c path .1 r),
+      )

@@ -1,6 +1,6 @@
 -- Sentences of circuits as theorems about the definitions: the values are the one assignment that a reader thinks of, a setting of the wires is
 -- theirs exactly if it makes the gate clauses true, and the lists have the lengths that counts give. Assumes nothing.
-use Prim.Native.Nat.{ℕ, suc, _+_, _*_, _%_, _^_, _<_}
+use Prim.Native.Nat.{ℕ, suc, _+_, _*_, _%_, _^_, _≤_, _<_}
 use mathlib.Core.Path.{_≡_, refl, sym, ap, _∙_}
 use mathlib.Core.Logic.{_↔_}
 use mathlib.Core.Bool.{Bool, true, false}
@@ -188,12 +188,24 @@ unfoldable pub fixed : List Latch → ℕ
 fixed [] = 0
 fixed (l ∷ ls) = elim (first l) [ low ↦ suc (fixed ls) | high ↦ suc (fixed ls) | either ↦ fixed ls ]
 
+-- at most one start clause a latch
+pub fixed-le : (ls : List Latch) → fixed ls ≤ length ls
+unfolding fixed
+fixed-le [] = omega arith
+fixed-le (l ∷ ls) = go (first l) (fixed-le ls)
+  where
+    go : (f : First) → fixed ls ≤ length ls
+        → (elim f as (λ z. ℕ) [ low ↦ suc (fixed ls) | high ↦ suc (fixed ls) | either ↦ fixed ls ]) ≤ suc (length ls)
+    go low h = omega arith
+    go high h = omega arith
+    go either h = omega arith
+
 pub flat-length : (ms : List Clause) → length (flat ms) ≡ 4 * length ms
 unfolding flat
 flat-length [] = refl
 flat-length (m ∷ ms) = omega (arith, flat-length ms)
 
-start-length : (k : ℕ) (ls : List Latch) → length (startClauses k ls) ≡ fixed ls
+pub start-length : (k : ℕ) (ls : List Latch) → length (startClauses k ls) ≡ fixed ls
 unfolding startClauses fixed
 start-length k [] = refl
 start-length k (l ∷ ls) = go (first l) (start-length (suc k) ls)

@@ -1,8 +1,8 @@
 // House files and circuits, well-formed and damaged, and what is answered, written one after the other. The texts come on standard input, in pieces:
 // two bytes for how often a piece is repeated and two for its length, the high byte first, then the piece. A piece that is repeated no times ends a
-// text, and its length says what the text is given to: 0 `answer::answer`, 1 `circuit_answer::answer`, 2 `aiger::import`; behind a 2 the lengths of
-// three clause stores follow, two bytes each. The files `stdin` and `stdout` are from `expected.py`, which reads and answers the texts from the scope
-// alone.
+// text, and its length says what the text is given to: 0 `answer::answer`, 1 `circuit_answer::answer`, 2 `aiger::import`, 3 `aiger::import_newer`;
+// behind a 2 or a 3 the lengths of three clause stores follow, two bytes each. The files `stdin` and `stdout` are from `expected.py`, which reads and
+// answers the texts from the scope alone.
 ghost use Prim.Native.Nat.{_≤_};
 
 // How many pieces may come. There are fewer.
@@ -15,8 +15,10 @@ const PIECE: usize = 65536;
 
 const ANSWER: usize = 13359;
 
-// Numbers of a whole store, of which the front is lent.
+// Numbers of a whole store, of which the front is lent, and of a large one, for fronts that are longer: over 4,096 clauses.
 const STORE: usize = 1100;
+
+const LARGE: usize = 17000;
 
 // What stands in a store before, its index added: nowhere 0.
 const FILL: u64 = 0xA5C3_0000_0000_0000;
@@ -95,14 +97,12 @@ fn write_circuit_answer(text: &[u8]) {
     io::write_all(1, front(&output, length));
 }
 
-fn filled() -> [u64; STORE] {
-    let mut store = [0u64; STORE];
+fn fill(store: &mut [u64]) {
     let mut j = 0;
-    while j < STORE {
-        store[j] = FILL + j as u64;
+    while j < store.len() {
+        store[j] = FILL | j as u64;
         j += 1;
     }
-    store
 }
 
 // Two sums over a store, which tell its content.
@@ -155,52 +155,79 @@ fn least(a: usize, b: usize) -> usize
     if a < b { a } else { b }
 }
 
-// An import with so much of each store.
+// By which reader a text is imported, and how much of each store it is lent.
+struct Lent {
+    newer: bool,
+    start: usize,
+    step: usize,
+    bad: usize,
+}
+
 fn import_fronts(
     text: &[u8],
     start: &mut [u64],
     step: &mut [u64],
     bad: &mut [u64],
-    a: usize,
-    b: usize,
-    c: usize,
+    lent: Lent,
 ) -> aiger::Imported {
-    let a = least(a, start.len());
-    let b = least(b, step.len());
-    let c = least(c, bad.len());
+    let a = least(lent.start, start.len());
+    let b = least(lent.step, step.len());
+    let c = least(lent.bad, bad.len());
+    if lent.newer {
+        return aiger::import_newer(text, &mut start[..a], &mut step[..b], &mut bad[..c]);
+    }
     aiger::import(text, &mut start[..a], &mut step[..b], &mut bad[..c])
 }
 
-// The text is imported into stores of these lengths: one line of what is answered, and of the whole stores then.
-fn write_import(text: &[u8], a: usize, b: usize, c: usize) {
-    let mut start = filled();
-    let mut step = filled();
-    let mut bad = filled();
-    let r = import_fronts(text, &mut start, &mut step, &mut bad, a, b, c);
+// One line of what is answered, and of the whole stores then.
+fn write_import(text: &[u8], start: &mut [u64], step: &mut [u64], bad: &mut [u64], lent: Lent) {
+    fill(start);
+    fill(step);
+    fill(bad);
+    let r = import_fronts(text, start, step, bad, lent);
     write_imported(r);
-    write_sums(&start);
-    write_sums(&step);
-    write_sums(&bad);
+    write_sums(start);
+    write_sums(step);
+    write_sums(bad);
     io::write_all(1, b"\n");
 }
 
+fn import_small(text: &[u8], lent: Lent) {
+    let mut start = [0u64; STORE];
+    let mut step = [0u64; STORE];
+    let mut bad = [0u64; STORE];
+    write_import(text, &mut start, &mut step, &mut bad, lent);
+}
+
+fn import_large(text: &[u8], lent: Lent) {
+    let mut start = [0u64; LARGE];
+    let mut step = [0u64; LARGE];
+    let mut bad = [0u64; LARGE];
+    write_import(text, &mut start, &mut step, &mut bad, lent);
+}
+
 // The lengths are read.
-fn take_import(text: &[u8]) {
+fn take_import(text: &[u8], newer: bool) {
     let mut six = [0u8; 6];
     io::read_full(0, &mut six);
-    write_import(
-        text,
-        number(six[0], six[1]),
-        number(six[2], six[3]),
-        number(six[4], six[5]),
-    );
+    let lent = Lent {
+        newer,
+        start: number(six[0], six[1]),
+        step: number(six[2], six[3]),
+        bad: number(six[4], six[5]),
+    };
+    if lent.start <= STORE && lent.step <= STORE && lent.bad <= STORE {
+        import_small(text, lent);
+    } else {
+        import_large(text, lent);
+    }
 }
 
 fn give(text: &[u8], to: usize) {
     match to {
         0 => write_answer(text),
         1 => write_circuit_answer(text),
-        _ => take_import(text),
+        _ => take_import(text, to == 3),
     }
 }
 

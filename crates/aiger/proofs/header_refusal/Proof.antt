@@ -9,60 +9,40 @@ use Rattle.aiger.proofs.header_refusal.Tie as tie
 
 returns : tie.Need-returns
 unfolding headerRefusal
-returns c =
-    let h = c .before .before .before .before .args .h in
-    rw (lt-ltb (h .m) (h .inputs + h .latches + h .gates) (c .if1 .taken), headerRefusal)
+returns c = rw (eq-eqb (c .before .before .args .h .latches) 0 (c .if1 .taken), headerRefusal)
 
 returns-2 : tie.Need-returns-2
 unfolding headerRefusal
 returns-2 c =
     let past-1 = c .before .before in
-    let h = past-1 .before .before .before .before .args .h in
-    rw (le-ltb (h .m) (h .inputs + h .latches + h .gates) (past-1 .if1 .left), eq-eqb (h .latches) 0 (c .if2 .taken), headerRefusal)
+    let h = past-1 .before .before .args .h in
+    rw (ne-eqb (h .latches) 0 (past-1 .if1 .left), lt-ltb 32 (h .latches) (c .if2 .taken), headerRefusal)
 
 returns-3 : tie.Need-returns-3
 unfolding headerRefusal
 returns-3 c =
     let past-2 = c .before .before in
     let past-1 = past-2 .before .before in
-    let h = past-1 .before .before .before .before .args .h in
+    let h = past-1 .before .before .args .h in
     rw (
-      le-ltb (h .m) (h .inputs + h .latches + h .gates) (past-1 .if1 .left),
-      ne-eqb (h .latches) 0 (past-2 .if2 .left),
-      lt-ltb 32 (h .latches) (c .if3 .taken),
+      ne-eqb (h .latches) 0 (past-1 .if1 .left),
+      le-ltb 32 (h .latches) (past-2 .if2 .left),
+      lt-ltb 64 (h .inputs + h .gates) (c .if3 .taken),
       headerRefusal,
     )
 
 returns-4 : tie.Need-returns-4
 unfolding headerRefusal
 returns-4 c =
-    let past-3 = c .before .before in
-    let past-2 = past-3 .before .before in
+    let past-2 = c .before .before in
     let past-1 = past-2 .before .before in
-    let h = past-1 .before .before .before .before .args .h in
+    let h = past-1 .before .before .args .h in
     rw (
-      le-ltb (h .m) (h .inputs + h .latches + h .gates) (past-1 .if1 .left),
-      ne-eqb (h .latches) 0 (past-2 .if2 .left),
-      le-ltb 32 (h .latches) (past-3 .if3 .left),
-      lt-ltb 64 (h .inputs + h .gates) (c .if4 .taken),
-      headerRefusal,
-    )
-
-returns-5 : tie.Need-returns-5
-unfolding headerRefusal
-returns-5 c =
-    let past-3 = c .before .before in
-    let past-2 = past-3 .before .before in
-    let past-1 = past-2 .before .before in
-    let h = past-1 .before .before .before .before .args .h in
-    rw (
-      le-ltb (h .m) (h .inputs + h .latches + h .gates) (past-1 .if1 .left),
-      ne-eqb (h .latches) 0 (past-2 .if2 .left),
-      le-ltb 32 (h .latches) (past-3 .if3 .left),
-      le-ltb 64 (h .inputs + h .gates) (c .if4 .left),
+      ne-eqb (h .latches) 0 (past-1 .if1 .left),
+      le-ltb 32 (h .latches) (past-2 .if2 .left),
+      le-ltb 64 (h .inputs + h .gates) (c .if3 .left),
       headerRefusal,
     )
 
 pub header-refusal-spec : {M : Type 1} → statement M
-header-refusal-spec =
-    tie.close (tie.spec (λ c. search needs) (λ c. search needs) returns returns-2 returns-3 (λ c. search needs) returns-4 returns-5)
+header-refusal-spec = tie.close (tie.spec returns returns-2 (λ c. search needs) returns-3 returns-4)

@@ -2,21 +2,21 @@
 use Prim.Native.Nat.{_+_, _*_}
 use borrow.Author.Needs.{needs}
 use borrow.Author.Tests.{lt-ltb, le-ltb}
-use Rattle.aiger.specs.Contracts.{short}
+use Rattle.aiger.specs.Contracts.{sharedCount, short}
 use Rattle.aiger.proofs.too_short.Statement.{statement}
 use Rattle.aiger.proofs.too_short.Tie as tie
 
 returns : tie.Need-returns
 unfolding short
-returns c = let a = c .before .args in rw (lt-ltb (a .start) (4 * a .h .latches) (c .if1 .taken), short)
+returns c = let a = c .before .args in rw (lt-ltb (a .start) (a .first) (c .if1 .taken), short)
 
 returns-2 : tie.Need-returns-2
 unfolding short
 returns-2 c =
     let a = c .before .before .args in
     rw (
-      le-ltb (a .start) (4 * a .h .latches) (c .before .if1 .left),
-      lt-ltb (a .step) (4 * (2 * a .h .latches + 3 * a .h .gates)) (c .if2 .taken),
+      le-ltb (a .start) (a .first) (c .before .if1 .left),
+      lt-ltb (a .step) (4 * (2 * a .h .latches + sharedCount (a .h))) (c .if2 .taken),
       short,
     )
 
@@ -25,8 +25,8 @@ unfolding short
 returns-3 c =
     let a = c .before .before .args in
     rw (
-      le-ltb (a .start) (4 * a .h .latches) (c .before .if1 .left),
-      le-ltb (a .step) (4 * (2 * a .h .latches + 3 * a .h .gates)) (c .if2 .left),
+      le-ltb (a .start) (a .first) (c .before .if1 .left),
+      le-ltb (a .step) (4 * (2 * a .h .latches + sharedCount (a .h))) (c .if2 .left),
       short,
     )
 
@@ -34,7 +34,6 @@ pub too-short-spec : {M : Type 1} → statement M
 too-short-spec =
     tie.close
     (tie.spec
-    (λ c. search needs)
     (λ c. search needs)
     (λ c. search needs)
     (λ c. search needs)

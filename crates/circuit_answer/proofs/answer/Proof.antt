@@ -11,37 +11,37 @@ returns : tie.Need-returns
 returns c =
     let p = c .before .before in
     let past = p .before .before in
-    answers-refusal _ _ _ _ (past .before .before .before .before .import .ensures) zero-rooms (past .if1 .taken) (p .put-refusal .ensures)
+    answers-refusal _ _ _ _ (past .before .before .before .before .import-newer .ensures) zero-rooms (past .if1 .taken) (p .put-refusal .ensures)
 
 array-share-prefix-start : tie.Need-array-share-prefix-start
-array-share-prefix-start c = read-fronts _ _ _ _ (c .before .before .before .before .import .ensures) zero-rooms .start
+array-share-prefix-start c = read-fronts _ _ _ _ (c .before .before .before .before .import-newer .ensures) zero-rooms .start
 
 slice-aggregate-solve : tie.Need-slice-aggregate-solve
 slice-aggregate-solve c =
     let p = c .before .before .before .before .before in
-    sym (length-take-le _ _ (read-fronts _ _ _ _ (p .import .ensures) zero-rooms .start))
+    sym (length-take-le _ _ (read-fronts _ _ _ _ (p .import-newer .ensures) zero-rooms .start))
 
 array-share-prefix-step : tie.Need-array-share-prefix-step
-array-share-prefix-step c = read-fronts _ _ _ _ (c .before .before .before .before .before .import .ensures) zero-rooms .step
+array-share-prefix-step c = read-fronts _ _ _ _ (c .before .before .before .before .before .import-newer .ensures) zero-rooms .step
 
 slice-aggregate-solve-2 : tie.Need-slice-aggregate-solve-2
 slice-aggregate-solve-2 c =
     let p = c .before .before .before .before .before .before in
-    sym (length-take-le _ _ (read-fronts _ _ _ _ (p .import .ensures) zero-rooms .step))
+    sym (length-take-le _ _ (read-fronts _ _ _ _ (p .import-newer .ensures) zero-rooms .step))
 
 array-share-prefix-bad : tie.Need-array-share-prefix-bad
-array-share-prefix-bad c = read-fronts _ _ _ _ (c .before .before .before .before .before .before .import .ensures) zero-rooms .bad
+array-share-prefix-bad c = read-fronts _ _ _ _ (c .before .before .before .before .before .before .import-newer .ensures) zero-rooms .bad
 
 slice-aggregate-solve-3 : tie.Need-slice-aggregate-solve-3
 slice-aggregate-solve-3 c =
     let p = c .before .before .before .before .before .before .before in
-    sym (length-take-le _ _ (read-fronts _ _ _ _ (p .import .ensures) zero-rooms .bad))
+    sym (length-take-le _ _ (read-fronts _ _ _ _ (p .import-newer .ensures) zero-rooms .bad))
 
 returns-2 : tie.Need-returns-2
 returns-2 c =
     let p = c .before .before in
     let past = p .before .before .before .before .before in
-    answers-circuit _ _ _ _ (past .before .before .before .before .import .ensures) zero-rooms (past .if1 .left) (p .solve .ensures)
+    answers-circuit _ _ _ _ (past .before .before .before .before .import-newer .ensures) zero-rooms (past .if1 .left) (p .solve .ensures)
 
 pub answer-spec : {M : Type 1} → statement M
 answer-spec =

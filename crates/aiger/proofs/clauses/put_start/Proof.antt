@@ -6,46 +6,41 @@ use native.Mathlib.Omega.{arith}
 use borrow.Author.Needs.{needs}
 use lib.ListN.{length, drop}
 use Rattle.text.proofs.Laying.{writes-length}
-use Rattle.circuit.specs.Import.{empty, startClauses, flat}
-use Rattle.aiger.specs.Contracts.{Low}
+use Rattle.circuit.specs.Import.{startClauses, flat}
 use Rattle.aiger.specs.Text.{latchesOf}
 use Rattle.aiger.proofs.Threes.{threes-end}
-use Rattle.aiger.proofs.Writing.{Going, going-none, going-then, going-ends, clause-end, with-inverted, start-next}
+use Rattle.aiger.proofs.Writing.{Going, going-none, going-then, going-ends, start-end, start-next}
 use Rattle.aiger.proofs.clauses.put_start.Statement.{statement}
 use Rattle.aiger.proofs.clauses.put_start.Tie as tie
 
 abbrev Inv-loop : tie.InvT-loop
 Inv-loop latches store₀ at₀ k₀ i₀ store at k i =
-    (i ≡ 3 * k) × (at ≡ 4 * k) × (i ≤ length latches) × Low (drop i latches)
+    (i ≡ 3 * k) × (at ≤ 4 * k) × (i ≤ length latches)
     × Going (flat (startClauses 0 (latchesOf latches))) (flat (startClauses k (latchesOf (drop i latches)))) 0 store₀ at store
 
 abbrev μ-loop : tie.MeasureT-loop
 μ-loop latches store₀ at₀ k₀ i₀ store at k i = length latches - i
 
 loop-holds : tie.Need-loop-holds Inv-loop μ-loop
-loop-holds c = (refl, refl, search needs, search needs, going-none _ _ _)
+loop-holds c = (refl, search needs, search needs, going-none _ _ _)
 
 loop-again : tie.Need-loop-again Inv-loop μ-loop
 loop-again c =
     let p = c .before .before in
-    let b = p .before .before in
-    let n = b .before .before .before in
-    let l = n .before .before .loop in
-    let made = with-inverted (l .k) _ empty _ (n .no-literal .ensures) (b .with-bit .ensures) in
-    let next = start-next _ (l .i) (l .k) _ (n .before .loop-test .taken) (l .inv .3) made in (
+    let in-loop = p .before .before .before in
+    let l = in-loop .before .loop in (
       omega (arith, l .inv .0),
-      omega (arith, l .inv .1, clause-end _ (p .put-clause .ensures)),
+      omega (arith, l .inv .1, start-end _ _ (p .put-first .ensures)),
       search needs,
-      next .1,
-      going-then (l .inv .4) (next .0) (p .put-clause .ensures),
+      going-then (l .inv .3) (start-next _ _ _ (in-loop .loop-test .taken)) (p .put-first .ensures),
     )
 
 same-length : tie.Need-same-length Inv-loop μ-loop
-same-length c = writes-length (c .before .loop .inv .4 .writes)
+same-length c = writes-length (c .before .loop .inv .3 .writes)
 
 returns : tie.Need-returns Inv-loop μ-loop
 unfolding startClauses flat
-returns c = going-ends (c .before .loop .inv .4) (rw (threes-end _ _ _ (c .loop-test .left)))
+returns c = going-ends (c .before .loop .inv .3) (rw (threes-end _ _ _ (c .loop-test .left)))
 
 pub put-start-spec : {M : Type 1} → statement M
 put-start-spec =
@@ -55,8 +50,9 @@ put-start-spec =
     μ-loop
     loop-holds
     (λ c. search needs)
-    (λ c κs. search needs)
-    (λ c κs. search needs)
+    (λ c. search needs)
+    (λ c. search needs)
+    (λ c. search needs)
     (λ c κs. search needs)
     (λ c. search needs)
     (λ c. search needs)

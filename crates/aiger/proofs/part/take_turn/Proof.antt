@@ -16,7 +16,8 @@ returns c =
     let read = c .before .before .before in
     let start = read .before .before .before .before .before .before in
     turn-stops (start .pre)
-    (told-wrong (read .numbers .ensures) (c .before .row-fits .ensures) (start .pre .stands .bounded .width) (not-true _ (c .if1 .taken)))
+    (told-wrong (read .numbers .ensures) (c .before .row-fits .ensures) (start .pre .stands .bounded .width) (start .pre .stands .bounded .start)
+    (not-true _ (c .if1 .taken)))
 
 sub-t25 : tie.Need-sub-t25
 sub-t25 c = turn-left (c .before .before .before .before .before .before .before .before .before .before .before .before .before .before .before .pre)
@@ -33,8 +34,7 @@ returns-2 c =
     let read = told .before .before in
     let start = read .before .before .before .before .before .before in
     turn-goes (start .pre) refl
-    (told-right (read .numbers .ensures) (told .row-fits .ensures) (start .pre .stands .bounded .width) (start .pre .stands .bounded .some-number)
-    (not-false _ (put .before .before .if1 .left))) (put .put-row .ensures)
+    (told-right (read .numbers .ensures) (told .row-fits .ensures) (not-false _ (put .before .before .if1 .left))) (put .put-row .ensures)
 
 pub take-turn-spec : {M : Type 1} → statement M
 take-turn-spec =

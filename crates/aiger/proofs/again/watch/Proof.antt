@@ -1,32 +1,32 @@
--- `aiger::watch` meets its contract. The loop's invariant: of whatever outputs are read from the first place the rest is read from the place now, and
+-- `again::watch` meets its contract. The loop's invariant: of whatever literals are read from the first place the rest is read from the place now, and
 -- what is said of all is said of what was gathered and of the rest. The measure is how many lines are left. Assumes nothing.
 use Prim.Native.Nat.{_≤_}
 use mathlib.Core.Logic.{⊎-elim}
-use mathlib.Core.Path.{refl, _∙_}
+use mathlib.Core.Path.{_∙_}
 use native.Mathlib.Omega.{arith}
 use borrow.Author.Needs.{needs}
 use lib.ListN.{length}
 use Rattle.aiger.specs.Contracts.{Fits}
-use Rattle.aiger.proofs.Watching.{Watching, watching-first, left-none, left-next, ends-within}
-use Rattle.aiger.proofs.watch.Statement.{statement}
-use Rattle.aiger.proofs.watch.Tie as tie
+use Rattle.aiger.proofs.Rereading.{ends-within, Gathering, gathering-first, gathered-all, gathered-next}
+use Rattle.aiger.proofs.again.watch.Statement.{statement}
+use Rattle.aiger.proofs.again.watch.Tie as tie
 
 abbrev Inv-loop : tie.InvT-loop
 Inv-loop text rows latches at₀ left₀ known₀ clause₀ at left known clause =
-    (at ≤ length text) × Fits rows latches × Watching text rows latches at₀ left₀ at left known clause
+    (at ≤ length text) × Fits rows latches × Gathering text rows latches at₀ left₀ at left known clause
 
 abbrev μ-loop : tie.MeasureT-loop
 μ-loop text rows latches at₀ left₀ known₀ clause₀ at left known clause = left
 
 loop-holds : tie.Need-loop-holds Inv-loop μ-loop
 loop-holds c =
-    let start = c .before .before .before .before in
-    (start .pre .again .within, start .pre .fits, rw (c .no-literal .ensures) (watching-first _ _ _ _ _))
+    let start = c .before .before .before in
+    (start .pre .1, start .pre .0, rw (c .no-literal .ensures) (gathering-first _ _ _ _ _))
 
 add-numbers : tie.Need-add-numbers Inv-loop μ-loop
 add-numbers c =
     let at-loop = c .before .before in
-    let text = at-loop .before .before .before .before .before .args .text .now in
+    let text = at-loop .before .before .before .before .args .text .now in
     omega (arith, ends-within text (at-loop .loop .at) (c .line-length .result) (at-loop .loop .inv .0) (c .line-length .ensures))
 
 part-numbers-end : tie.Need-part-numbers-end Inv-loop μ-loop
@@ -36,7 +36,7 @@ add-at : tie.Need-add-at Inv-loop μ-loop
 add-at c =
     let measured = c .before .before .before .before .before .before in
     let at-loop = measured .before .before in
-    let text = at-loop .before .before .before .before .before .args .text .now in
+    let text = at-loop .before .before .before .before .args .text .now in
     omega (arith, ends-within text (at-loop .loop .at) (measured .line-length .result) (at-loop .loop .inv .0) (measured .line-length .ensures))
 
 loop-again : tie.Need-loop-again Inv-loop μ-loop
@@ -46,8 +46,8 @@ loop-again c =
     let at-loop = measured .before .before in (
       ends-within _ _ _ (at-loop .loop .inv .0) (measured .line-length .ensures),
       at-loop .loop .inv .1,
-      λ f from outputs line others w e.
-          left-next _ _ _ (at-loop .loop .inv .2 f from outputs line others w e) w (measured .before .loop-test .taken) (at-loop .loop .inv .0)
+      λ h singles others again.
+          gathered-next _ _ _ (at-loop .loop .inv .2 h singles others again) (measured .before .loop-test .taken) (at-loop .loop .inv .0)
           _
           (measured .line-length .ensures)
           _
@@ -60,8 +60,9 @@ loop-again c =
     )
 
 returns : tie.Need-returns Inv-loop μ-loop
-returns c outputs again =
-    left-none _ _ _ (c .before .loop .inv .2 _ _ outputs _ _ refl (again .says)) (omega arith)
+returns c =
+    let inv = c .before .loop .inv in
+    record { within = inv .0; says = λ h singles others again. gathered-all _ _ _ (inv .2 h singles others again) (omega arith) }
 
 pub watch-spec : {M : Type 1} → statement M
 watch-spec =

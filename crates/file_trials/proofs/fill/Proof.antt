@@ -1,19 +1,19 @@
--- `file_trials::filled` is safe and ends. The measure is what is left of the store. Assumes nothing.
+-- `file_trials::fill` is safe and ends. The measure is what is left of the store. Assumes nothing.
 use Prim.Native.Nat.{_-_}
 use mathlib.Core.Path.{_≡_}
 use borrow.Author.Needs.{needs}
 use lib.ListN.{length}
-use Rattle.file_trials.proofs.filled.Statement.{statement}
-use Rattle.file_trials.proofs.filled.Tie as tie
+use Rattle.file_trials.proofs.fill.Statement.{statement}
+use Rattle.file_trials.proofs.fill.Tie as tie
 
 abbrev Inv-loop : tie.InvT-loop
-Inv-loop store₀ j₀ store j = length store ≡ 1100
+Inv-loop store₀ j₀ store j = length store ≡ length store₀
 
 abbrev μ-loop : tie.MeasureT-loop
-μ-loop store₀ j₀ store j = 1100 - j
+μ-loop store₀ j₀ store j = length store₀ - j
 
-pub filled-spec : {M : Type 1} → statement M
-filled-spec =
+pub fill-spec : {M : Type 1} → statement M
+fill-spec =
     tie.close
     (tie.spec
     Inv-loop
