@@ -1,6 +1,6 @@
--- Literals that stand alone, in three runs: outputs, bad-state lines, constraints. A part of so many lines and so many more is two parts, one behind the
--- other, so each run is a part that is read from where the one before it ends, and what is said of all literals is said of the three runs. Assumes
--- nothing.
+-- Literals that stand alone, in three pieces: outputs, bad-state lines, constraints. A part of so many lines and so many more is two parts, one behind
+-- the other, so each piece is a part that is read from where the one before it ends, and what is said of all literals is said of the three pieces.
+-- Assumes nothing.
 use Prim.Native.Nat.{ℕ, zero, suc, _+_, _*_}
 use mathlib.Core.Bool.{Bool, true, false, _&&_, and-assoc}
 use mathlib.Core.List.{List, [], _∷_, _++_, append-assoc}
@@ -53,9 +53,9 @@ part-split f (suc a) b k (l ∷ ls) e =
       both = o .all ∙ (ap (λ (x : List ℕ). o .row ++ x) (s .both) ∙ sym (append-assoc (o .row) (s .front) (s .back)));
     }
 
--- ---- the three runs
+-- ---- the three pieces
 module _ (text : List ℕ) (h : Header) (at : ℕ) (singles : List ℕ) where
-  record Runs : Type 0 where
+  record Pieces : Type 0 where
     outputs : List ℕ
     bads : List ℕ
     constraints : List ℕ
@@ -71,8 +71,8 @@ module _ (text : List ℕ) (h : Header) (at : ℕ) (singles : List ℕ) where
     many-outputs : length outputs ≡ 3 * h .outputs
     many-bads : length bads ≡ 3 * h .bads
 
-  runs : ReadAgain text (uses h) at (singlesOf h) singles → Runs
-  runs (others, w) =
+  pieces : ReadAgain text (uses h) at (singlesOf h) singles → Pieces
+  pieces (others, w) =
       let s = part-split (uses h) (h .outputs + h .bads) (h .constraints) (w .from) _ (w .says) in
       let t = part-split (uses h) (h .outputs) (h .bads) (w .from) _ {rows = s .front} (s .first) in
       record {
@@ -93,7 +93,7 @@ module _ (text : List ℕ) (h : Header) (at : ℕ) (singles : List ℕ) where
       }
 
   -- their literals
-  module _ (r : Runs) where
+  module _ (r : Pieces) where
     abbrev a : List ℕ
     a = firsts (r .outputs)
 
@@ -154,7 +154,7 @@ module _ (text rows : List ℕ) (latches : ℕ) (h : Header) (at : ℕ) (x y z :
         within = bads .within;
         count = refl;
         says = λ singles w.
-            let r = runs text h at singles w in
+            let r = pieces text h at singles w in
             let o = outputs .says h (r .outputs) _ (r .first) in
             let b = bads .says h (r .bads) _
             (record { within = outputs .within; from = r .line-1; line = r .line-2; says = rw (o .2) at (r .second) }) in

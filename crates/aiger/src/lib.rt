@@ -1,8 +1,8 @@
 // AIGER, ASCII, first edition and newer: a circuit is read from a text into three lent clause stores. It takes every text and every store. It answers n,
 // w and the counts of masks, with each list in front of its store and zeros behind it; or it refuses with a number and a line, and leaves the stores
-// untouched. So nothing is written before the last refusal. The text is read by its form in read.rt, line by line in part.rt and numbers.rt, and
-// lines without number again in again.rt; variables are found in find.rt, clauses written in clauses.rt; here are the refusals in their order. The
-// first edition is the newer one with nothing further, so both readers are one.
+// untouched. So nothing is written before the last refusal. The text is read by its form in read.rt, line by line in part.rt and numbers.rt; lines of
+// which there may be any number are read again in again.rt; variables are found in find.rt, clauses written in clauses.rt; here are the refusals in
+// their order. The first edition is the newer one with nothing further, so both readers are one function.
 mod again;
 mod clauses;
 mod find;
