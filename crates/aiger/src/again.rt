@@ -10,14 +10,14 @@ use super::read::Header;
 use system::Clause;
 
 // So many lines of one literal, from this index of the text on.
-#[derive(Drop)]
+#[derive(Clone, Copy)]
 pub(super) struct Singles {
     pub(super) at: usize,
     pub(super) count: u64,
 }
 
 // Whether all of them are known, the clause that one of them is 1, and where they end.
-#[derive(Drop)]
+#[derive(Clone, Copy)]
 struct Watched {
     known: bool,
     clause: Clause,
@@ -25,7 +25,7 @@ struct Watched {
 }
 
 // The same of all; the clause is that of the bad-state lines, or of the outputs where there are none; and the constraints.
-#[derive(Drop)]
+#[derive(Clone, Copy)]
 pub(super) struct Seen {
     pub(super) known: bool,
     pub(super) watched: Clause,

@@ -3,6 +3,8 @@
 // untouched. So nothing is written before the last refusal. The text is read by its form in read.rt, line by line in part.rt and numbers.rt; lines of
 // which there may be any number are read again in again.rt; variables are found in find.rt, clauses written in clauses.rt; here are the refusals in
 // their order. The first edition is the newer one with nothing further, so both readers are one function.
+#![tactic(auto)]
+
 mod again;
 mod clauses;
 mod find;
@@ -23,7 +25,7 @@ use read::{Header, Reading, read};
 use system::Clause;
 
 // With the number 0, n, w and the counts of masks; with a refusal, its line or 0, and all else 0.
-#[derive(Drop)]
+#[derive(Clone, Copy)]
 pub struct Imported {
     pub number: u32,
     pub line: usize,

@@ -9,7 +9,7 @@ use text::Reader;
 
 // What a line has to be: how many literals it has, whether a start value may stand behind them, whether the first defines a variable, and the largest
 // literal.
-#[derive(Drop)]
+#[derive(Clone, Copy)]
 pub(super) struct Form {
     pub(super) width: usize,
     pub(super) starts: bool,
@@ -19,7 +19,7 @@ pub(super) struct Form {
 
 // Where a part stands: whether a line is to be taken, whether this line is missing or wrong, how many lines are left, the line and where it begins,
 // where its row is to stand, and what it has to be.
-#[derive(Drop)]
+#[derive(Clone, Copy)]
 pub(super) struct Progress {
     pub(super) more: bool,
     pub(super) fault: bool,

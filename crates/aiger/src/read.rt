@@ -10,7 +10,7 @@ use super::numbers::numbers;
 use super::part::{Form, Progress, take_part};
 
 // The counts of the header, and whether it was read in the newer edition.
-#[derive(Drop)]
+#[derive(Clone, Copy)]
 pub(super) struct Header {
     pub(super) newer: bool,
     pub(super) m: u64,
@@ -25,14 +25,14 @@ pub(super) struct Header {
 }
 
 // What the first line says.
-#[derive(Drop)]
+#[derive(Clone, Copy)]
 enum Head {
     Right(Header),
     Wrong,
 }
 
 // A refusal for the form and its line, or 0; then the counts, and where the latches and the lines of one literal begin.
-#[derive(Drop)]
+#[derive(Clone, Copy)]
 pub(super) struct Reading {
     pub(super) number: u32,
     pub(super) line: usize,

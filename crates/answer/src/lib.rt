@@ -1,4 +1,6 @@
 // Text in, text out: the whole of `scan` as one function on two lent buffers.
+#![tactic(auto)]
+
 ghost use Rattle.std.specs.Prelude.{[], ◌∷◌, ◌≡◌, ◌/◌, ◌%◌, ◌^◌, ◌≤◌, ◌<◌, length};
 ghost use Rattle.text.specs.Writing.{Writes};
 ghost use Rattle.system.specs.System.{system_of};

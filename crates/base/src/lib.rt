@@ -1,5 +1,6 @@
 // What every crate may use: the limits as numbers; in specs/ the limits as definitions and the first refusal of several; in proofs/ how a proof goes by
 // a test. No function.
+#![tactic(auto)]
 
 // The most clauses of a list.
 pub const MOST_CLAUSES: usize = 4096;

@@ -1,11 +1,13 @@
 // What a call of the search returns: the outcome, refusal 4, and the evidence.
+#![tactic(auto)]
+
 ghost use Rattle.std.specs.Prelude.{◌≡◌};
 ghost use Rattle.call.specs.Call.{wrong_stores};
 ghost use Rattle.call.specs.Promise.{stores, number_of, questions_of, HandedBack};
 
 // How a call ended: safe or unsafe, with the number of evidence states; given up, with 5, 6 or 14; or refused, with 1 to 4. What was searched has the
 // count of questions asked behind it.
-#[derive(Drop)]
+#[derive(Clone, Copy)]
 pub enum Outcome {
     Safe(usize, u32),
     Unsafe(usize, u32),

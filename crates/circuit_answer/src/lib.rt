@@ -1,4 +1,6 @@
 // Text in, text out for circuits: the whole of `scan_circuit` as one function on two lent buffers.
+#![tactic(auto)]
+
 ghost use Rattle.circuit_answer.specs.Promise.{Answers};
 
 // Masks of clause stores that hold the lists of every circuit whose system is well-formed: 32 latches, and 4,096 clauses.

@@ -1,4 +1,6 @@
 // The evidence check: whether excluded states, or a path, are right. It trusts nothing that a search has said.
+#![tactic(auto)]
+
 ghost use Rattle.std.specs.Prelude.{true, not, ◌≡◌, ◌^◌, ◌≤◌, ◌<◌, ltb, length};
 ghost use Rattle.question.specs.Question.{answered};
 ghost use Rattle.system.specs.System.{list_true, some_true, pair, system_of};
@@ -10,7 +12,7 @@ use order::TABLE;
 use question::Free;
 
 // Yes or no, with the count of questions asked; or the number of a refusal, which says neither.
-#[derive(Drop)]
+#[derive(Clone, Copy)]
 pub enum Checked {
     Yes(usize),
     No(usize),

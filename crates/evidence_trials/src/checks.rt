@@ -10,7 +10,7 @@ pub const STATE_REFUSED: u64 = 2;
 pub const REFUSED: u64 = 3;
 
 // What a check said: one of the four, the number of a refusal or 0, and the questions that were asked.
-#[derive(Drop)]
+#[derive(Clone, Copy)]
 pub struct Said {
     pub answer: u64,
     pub number: u64,

@@ -17,7 +17,7 @@ const TWICE: u64 = 6;
 const EMPTY: u64 = 7;
 
 // One damage: the way, the place, and the number put there.
-#[derive(Drop)]
+#[derive(Clone, Copy)]
 pub struct Damage {
     pub way: u64,
     pub place: usize,

@@ -4,7 +4,7 @@
 const NO_STATE: usize = 16;
 
 // Evidence found: whether it is a path, and how many states it has.
-#[derive(Drop)]
+#[derive(Clone, Copy)]
 pub struct Found {
     pub path: bool,
     pub k: usize,

@@ -1,5 +1,6 @@
 // Right evidence for small systems, damaged in every single way and given to both checks. Their answers are compared with a walk over all states,
 // which shares no code with them. The file `stdout` is from `expected.py`, which makes the same systems and damages and decides once more.
+#![tactic(auto)]
 
 mod checks;
 mod counts;

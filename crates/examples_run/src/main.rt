@@ -1,5 +1,7 @@
 // The examples, each answered and held to the answer that the text beside it tells: the lines that begin with four blanks, up to the next blank.
 // The file `args` has the name of each house file or circuit and behind it that of its text. A circuit begins with `aag`.
+#![tactic(auto)]
+
 ghost use Rattle.std.specs.Prelude.{◌+◌, ◌^◌, ◌≤◌, ◌<◌, length};
 
 use libc::STDOUT_FILENO;

@@ -3,6 +3,8 @@
 // text, and its length says what the text is given to: 0 `answer::answer`, 1 `circuit_answer::answer`, 2 `aiger::import`, 3 `aiger::import_newer`;
 // behind a 2 or a 3 the lengths of three clause stores follow, two bytes each. The files `stdin` and `stdout` are from `expected.py`, which reads and
 // answers the texts from the scope alone.
+#![tactic(auto)]
+
 ghost use Rattle.std.specs.Prelude.{◌≤◌};
 
 // How many pieces may come. There are fewer.
@@ -106,7 +108,7 @@ fn fill(store: &mut [u64]) {
 }
 
 // Two sums over a store, which tell its content.
-#[derive(Drop)]
+#[derive(Clone, Copy)]
 struct Sums {
     p: u64,
     q: u64,
@@ -157,7 +159,7 @@ fn least(a: usize, b: usize) -> usize
 }
 
 // By which reader a text is imported, and how much of each store it is lent.
-#[derive(Drop)]
+#[derive(Clone, Copy)]
 struct Lent {
     newer: bool,
     start: usize,

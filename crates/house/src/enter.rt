@@ -11,7 +11,7 @@ ghost use Rattle.line.specs.declared.Line.TheVariants.{Clause};
 use line::{Line, parse};
 
 // What was read so far: the stage, n, the count of clause lines, and each list's count of masks.
-#[derive(Drop)]
+#[derive(Clone, Copy)]
 pub(super) struct Reading {
     pub(super) stage: u32,
     pub(super) n: u32,
@@ -22,7 +22,7 @@ pub(super) struct Reading {
 }
 
 // Reading goes on, or a refusal.
-#[derive(Drop)]
+#[derive(Clone, Copy)]
 pub(super) enum Taken {
     On(Reading),
     Refused(u32),

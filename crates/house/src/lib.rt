@@ -2,6 +2,8 @@
 // answers n and the counts of masks, with each list in front of its store and zeros behind it; or it refuses with 8 to 13 and the line, and leaves
 // the stores all zero. A line by itself is the crate `line`, what it does to what was read is enter.rt; here are the loop, the refusal of a file that
 // stops early, and the zeros.
+#![tactic(auto)]
+
 mod enter;
 
 ghost use Rattle.std.specs.Prelude.{◌≡◌, []};
@@ -12,7 +14,7 @@ ghost use Rattle.house.specs.Inner.{Lie, begun, Stands, GoesOn, Turned, Ended, r
 use enter::{Reading, Taken, take_line};
 
 // With the number 0, n and the counts of masks; with a refusal, its line, and all else 0.
-#[derive(Drop)]
+#[derive(Clone, Copy)]
 pub struct House {
     pub number: u32,
     pub line: usize,
@@ -23,7 +25,7 @@ pub struct House {
 }
 
 // Where reading stands: whether there is a line to take, the number of a refusal or 0, the line, and what was read.
-#[derive(Drop)]
+#[derive(Clone, Copy)]
 struct Progress {
     more: bool,
     number: u32,

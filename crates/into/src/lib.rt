@@ -1,4 +1,6 @@
 // Every state that steps into a given one, written into a lent store in rising order: a question for the next one, until there is none.
+#![tactic(auto)]
+
 ghost use Rattle.std.specs.Prelude.{◌≡◌, ◌&&◌, ◌^◌, ◌≤◌};
 ghost use Rattle.ic3.specs.Model.{least};
 ghost use Rattle.question.specs.Question.{not_below, answered};
@@ -10,7 +12,7 @@ use order::TABLE;
 use question::Free;
 
 // What is told: the number, 0 or a refusal; how many states the store starts with; and how many questions were asked.
-#[derive(Drop)]
+#[derive(Clone, Copy)]
 pub struct Listing {
     pub number: u32,
     pub count: usize,

@@ -18,7 +18,7 @@ const DIGEST: usize = 10;
 const DIFFER: usize = 11;
 
 // What was seen in a store: whether it is as it has to be, and a digest.
-#[derive(Drop)]
+#[derive(Clone, Copy)]
 pub struct Seen {
     pub right: bool,
     pub digest: u64,

@@ -1,5 +1,6 @@
 // The states that step into a given one, listed for small random systems in stores of every length near the right one, and compared with a walk over
 // all states, which shares no code with the call. The file `stdout` is from `expected.py`, which makes the same systems and lists once more.
+#![tactic(auto)]
 
 mod counts;
 mod refused;

@@ -2,13 +2,15 @@
 // the count. Of what was read it takes the stage alone, by which a kind is in its place, and it takes no store. Refused here, by the first test that
 // fails: 8, no frame; 9, sum; 10, kind; 11, length. The line is read by index and the frame never built, since there is no memory but what is lent.
 // Every private function that reads a part of the line requires that it lies within.
+#![tactic(auto)]
+
 ghost use Rattle.std.specs.Prelude.{◌≡◌, ◌+◌, ◌<◌, length};
 ghost use Rattle.line.specs.Text.{digit, sum, number};
 ghost use Rattle.line.specs.Says.{in_place, width, length_for, says};
 ghost use Rattle.line.specs.Inner.{byte_at, frame_at, SumAt, NumberAt, FrameAt};
 
 // What a line says by itself: the size, a clause, the count of clause lines, or what is wrong with it.
-#[derive(Drop)]
+#[derive(Clone, Copy)]
 pub enum Line {
     Size(u32),
     Clause { kind: u32, ones: u64, zeros: u64 },

@@ -1,5 +1,7 @@
 // Looks at clauses and at excluded states against settled bits: what has failed, and which bit is forced. A clause is one test of whole masks. To
 // say that nothing is forced promises nothing, since a whole word is tested in the end.
+#![tactic(auto)]
+
 ghost use Rattle.std.specs.Prelude.{List, ◌≡◌, ℕ, ◌/◌, ◌%◌, ◌^◌, ◌≤◌, leb, length, get_or};
 ghost use Rattle.masks.specs.Word.{word_of};
 ghost use Rattle.look.specs.Excluded.{excluded};
@@ -10,7 +12,7 @@ use masks::Mask;
 use system::Clause;
 
 // Settled bits, and their values. What is asked has its values within the bits, a bit that is open being 0 among them; a look takes any two masks.
-#[derive(Drop)]
+#[derive(Clone, Copy)]
 pub struct Settled {
     pub bits: Mask,
     pub values: Mask,
@@ -18,7 +20,7 @@ pub struct Settled {
 
 // What a look at clauses or excluded states says: nothing is forced; or one has failed, for these settled bits; or its one open bit is forced to
 // `value`, since the other value fails for `reason`, and these blocks of clauses wait still.
-#[derive(Drop)]
+#[derive(Clone, Copy)]
 pub enum Look {
     Rest,
     Failed(Mask),

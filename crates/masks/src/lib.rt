@@ -1,11 +1,13 @@
 // Functions on masks. Every 64-bit number is a mask and every number a position, so each function answers for every argument. A mask over a pair and the
 // wires is two words; what is done with it is done with one number of 128 positions, so that a fact about masks is shown once for both words.
+#![tactic(auto)]
+
 ghost use Rattle.std.specs.Prelude.{true, ◌↔◌, ◌≡◌, ◌-◌, ◌%◌, ◌^◌, eqb};
 ghost use Rattle.std.specs.Int.Bits.{bit_and, bit_or};
 ghost use Rattle.masks.specs.Word.{width, word_of, OneBit};
 
 // Positions of a pair, the state's bits in its low half and the same bits one step later in its high half; and of the wires.
-#[derive(Drop)]
+#[derive(Clone, Copy)]
 pub struct Mask {
     pub pair: u64,
     pub wires: u64,

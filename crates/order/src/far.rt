@@ -8,7 +8,7 @@ ghost use Rattle.std.specs.Prelude.{◌+◌, ◌*◌, ◌<◌, ◌≤◌, length
 const MOST_LOOKS: usize = 1_000_000;
 
 // The far wires that were found, and the looks that are left.
-#[derive(Drop)]
+#[derive(Clone, Copy)]
 struct Far {
     wires: u64,
     left: usize,

@@ -1,6 +1,7 @@
 // In which order a question looks at clauses and tries bits. No answer depends on it, only time: so nothing is promised of a table, and any numbers are
 // right. The clauses of a list stand in 64 blocks. A look goes through those that wait, and a bit that is settled wakes those in which it can force another
 // bit or fail.
+#![tactic(auto)]
 
 // far is far.rt: which wires are tried first.
 mod far;

@@ -14,7 +14,7 @@ use masks::Mask;
 use order::{TABLE, woken};
 
 // Some word, or nothing and the settled bits that this rests on.
-#[derive(Drop)]
+#[derive(Clone, Copy)]
 pub(crate) enum Found {
     Word(Mask),
     Nothing(Mask),
@@ -22,7 +22,7 @@ pub(crate) enum Found {
 
 // What a look, a test or a try says of settled bits: some word that agrees with them fulfils the condition; or none does, for these of them; or an open
 // bit is forced to `value`, since the other value fails for `reason`, and these blocks of clauses wait still.
-#[derive(Drop)]
+#[derive(Clone, Copy)]
 enum Said {
     Word(Mask),
     Failed(Mask),
@@ -113,7 +113,7 @@ fn pick(first: u64, s: Settled) -> Mask
 }
 
 // Where forced bits came to rest, or that nothing passes.
-#[derive(Drop)]
+#[derive(Clone, Copy)]
 pub(crate) enum Rested {
     At(Settled),
     Failed,

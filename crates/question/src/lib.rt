@@ -4,6 +4,7 @@
 // front may stay open. What is forced before any bit is tried stays settled throughout the walk.
 //
 // Every question is lent a table, in which order to look and to try (`order::table`, once for a list). No answer depends on it.
+#![tactic(auto)]
 
 // engine is engine.rt: some word, or nothing and why.
 mod engine;
@@ -32,21 +33,21 @@ const MOST_OPEN: usize = 96;
 const TRAIL: usize = 4 * MOST_OPEN;
 
 // What a question leaves free: n bits of the state and w wires.
-#[derive(Drop)]
+#[derive(Clone, Copy)]
 pub struct Free {
     pub n: u32,
     pub w: u32,
 }
 
 // A state, or that none exists.
-#[derive(Drop)]
+#[derive(Clone, Copy)]
 pub enum Answer {
     State(u64),
     Nothing,
 }
 
 // Where the walk to the least front stands: what it has settled, and a word that agrees with it.
-#[derive(Drop)]
+#[derive(Clone, Copy)]
 struct Descent {
     settled: Settled,
     word: Mask,

@@ -1,5 +1,6 @@
 // Random questions, half of them from a number on, asked of the engine and answered by a walk over all states from there up. The walk tests a clause literal by literal and shares
 // no code with the engine. The file `stdout` is from `expected.py`, which makes the same questions and answers them once more.
+#![tactic(auto)]
 
 // How many questions, and where the numbers start.
 const QUESTIONS: u64 = 20000;
@@ -19,7 +20,7 @@ const LATER: u64 = 1;
 const WILD: u64 = 2;
 
 // How many questions had an answer and how many none, the sum of the answers, and how many the engine answers otherwise, with the next number.
-#[derive(Drop)]
+#[derive(Clone, Copy)]
 pub struct Tally {
     pub found: u64,
     pub none: u64,

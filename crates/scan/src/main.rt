@@ -1,4 +1,5 @@
 // The program `scan`: a house file on standard input, the answer on standard output.
+#![tactic(auto)]
 
 // What stands behind so many bytes of a text does not matter, and no answer is longer: `cut` and `short` in the promise of `answer`.
 const INPUT: usize = 37999;

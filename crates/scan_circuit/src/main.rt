@@ -1,4 +1,5 @@
 // The program `scan_circuit`: a circuit on standard input, the answer on standard output.
+#![tactic(auto)]
 
 // So much of a text is read. If it is a circuit so far, that is the answer, whatever follows; if not, a longer text is refused with 20: `cut` in the
 // promise of `circuit_answer`. Two bytes hold the number of every line in it, and of one that is missing behind them: `line` there.

@@ -2,6 +2,8 @@
 // leaves the stores untouched, or it asks for a start state and runs the turns from step 1 on, gives up with 5, 6 or 14 where they do, and leaves the
 // stores with the evidence alone. The three lent slices are all the memory there is: the state store and the level store hold the stored states
 // (store.rt), the path store the open duties (react.rt), so that a path is in place when it is found; turn.rt asks the questions.
+#![tactic(auto)]
+
 mod react;
 mod store;
 mod turn;

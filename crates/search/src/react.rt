@@ -14,7 +14,7 @@ use super::store::{Kept, gap, last_at, next_at, store};
 // What the awaited question is asked for: step 2 (or 1); step 3 for the duty of level k + 1; step 4 at level i for entry j.
 // The open duties stand in the path store: index k holds the state of the open duty of level k, from the lowest that is open up to N. So a state
 // found in R(0) and written at index 0 makes the front of the path store the path.
-#[derive(Drop)]
+#[derive(Clone, Copy)]
 pub(super) enum Phase {
     Look,
     Settle(u32),
@@ -22,7 +22,7 @@ pub(super) enum Phase {
 }
 
 // Where a search stands: N, the number of stored states, and the phase. The rest stands in the lent stores.
-#[derive(Drop)]
+#[derive(Clone, Copy)]
 pub(super) struct Config {
     pub(super) N: u32,
     pub(super) count: usize,
@@ -30,7 +30,7 @@ pub(super) struct Config {
 }
 
 // Why a search gives up: no room for a further state, the allowance used up, or no start state.
-#[derive(Drop)]
+#[derive(Clone, Copy)]
 pub(super) enum Why {
     NoRoom,
     Spent,
@@ -38,7 +38,7 @@ pub(super) enum Why {
 }
 
 // How a search ends: safe, with the level from which on states are excluded and the number stored; unsafe, with the path's length; or given up.
-#[derive(Drop)]
+#[derive(Clone, Copy)]
 pub(super) enum Verdict {
     Safe(u32, usize),
     Unsafe(usize),
@@ -46,7 +46,7 @@ pub(super) enum Verdict {
 }
 
 // What an answer leads to.
-#[derive(Drop)]
+#[derive(Clone, Copy)]
 pub(super) enum Move {
     Go(Config),
     Stop(Verdict),

@@ -6,7 +6,7 @@ ghost use Rattle.std.specs.Prelude.{◌≤◌, length};
 ghost use Rattle.search.specs.Inner.{Holds, Walks, Judges, FirstAt, LastAt, KeptAs, LeastGap, FrontOf};
 
 // The number stored after a state got its level, or that there was no room.
-#[derive(Drop)]
+#[derive(Clone, Copy)]
 pub(super) enum Kept {
     At(usize),
     Full,

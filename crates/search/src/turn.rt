@@ -19,7 +19,7 @@ use order::TABLE;
 use question::Free;
 
 // How a search ended, and the questions asked.
-#[derive(Drop)]
+#[derive(Clone, Copy)]
 pub(super) struct Ending {
     pub(super) verdict: Verdict,
     pub(super) questions: u32,

@@ -73,7 +73,7 @@ const NUMBER: usize = 48;
 
 // What the walk knows of a system: how many states are no start state and lead to a bad one, the fewest steps from a start state to a bad one, and
 // how many states are start states, bad, and without a next state; and, told from outside, the questions that a search with full rounds asks.
-#[derive(Drop)]
+#[derive(Clone, Copy)]
 pub struct Known {
     pub m: usize,
     pub steps: u32,
@@ -84,7 +84,7 @@ pub struct Known {
 }
 
 // What a call did, and whether the evidence check and the walk accept its evidence and all else that was lent is zero.
-#[derive(Drop)]
+#[derive(Clone, Copy)]
 pub struct Seen {
     pub number: u32,
     pub said: u64,

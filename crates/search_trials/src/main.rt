@@ -1,6 +1,7 @@
 // Searches of small random systems, compared with a walk over all states, which shares no code with the search or the question. The file `stdout`
 // is from `expected.py`, which makes the same systems, walks, and searches once more as the scope says; and so is `stdin`, the questions that a search
 // with full rounds asks of each system.
+#![tactic(auto)]
 
 mod counts;
 mod systems;
@@ -20,7 +21,7 @@ const BAD_SEED: u64 = 0xFF51_AFD7_ED55_8CCD;
 const FILLED: u64 = 9;
 
 // The room and the allowance of a call. The least room that suffices lies between low and high.
-#[derive(Drop)]
+#[derive(Clone, Copy)]
 pub struct Plan {
     pub room: usize,
     pub allowance: u32,

@@ -1,5 +1,6 @@
 // The worked sequencers of the scope, and calls at the edge of each refusal, a line each: the number, the verdict, the questions, the evidence,
 // and what the three stores hold afterwards. The file `stdout` is worked out by hand from the scope.
+#![tactic(auto)]
 
 // Start {0} and bad {3}, of two bits. A clause has four masks: bits wanted 1, bits wanted 0, wires wanted 1, wires wanted 0.
 const ZERO: [u64; 8] = [0, 1, 0, 0, 0, 2, 0, 0];

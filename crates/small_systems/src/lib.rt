@@ -1,5 +1,6 @@
 // Small random systems, of 1 to 10 bits and a few wires, and a walk over all their states, on the tables of `tables`. It shares no code with the crates that it is
 // compared with. Each function takes every argument.
+#![tactic(auto)]
 
 // What `distances` says of a state that no way leads to.
 pub const NEVER: u32 = 0xFFFF_FFFF;
@@ -30,7 +31,7 @@ pub const GATES: u64 = 8;
 const NONE: u64 = 0xFFFF_FFFF_FFFF_FFFF;
 
 // A clause, if one is to be written: bits wanted 1, bits wanted 0, wires wanted 1, wires wanted 0.
-#[derive(Drop)]
+#[derive(Clone, Copy)]
 pub struct Clause {
     pub there: bool,
     pub ones: u64,
@@ -40,7 +41,7 @@ pub struct Clause {
 }
 
 // A literal: a position of the pair, or a wire, and the value wanted there.
-#[derive(Drop)]
+#[derive(Clone, Copy)]
 struct Literal {
     pair: u64,
     wire: u64,

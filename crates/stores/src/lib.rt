@@ -1,5 +1,7 @@
 // Lent stores are cleared: all of one, or what stands behind its front. Rattle has no function over two widths, so states and levels have one each;
 // what they promise is one.
+#![tactic(auto)]
+
 ghost use Rattle.std.specs.Prelude.{◌≡◌, ◌++◌, ◌-◌, length, replicate, take};
 
 // Everything becomes zero.

@@ -1,13 +1,15 @@
 // Systems of the scope: whether a clause and a list are true of a word, a pair and a setting of the wires, and refusals 1 to 3. A clause is tested by
 // whole masks, never bit by bit. Each public function takes every argument: a list whose count of masks is no multiple of four too, of which `refusal`
 // says that it is wrong.
+#![tactic(auto)]
+
 ghost use Rattle.std.specs.Prelude.{◌≡◌, ◌^◌, ◌≤◌, leb};
 ghost use Rattle.system.specs.System.{clause_true, four_true, list_true, wrong_size, wrong_count, wrong_counts, wrong_mask, wrong_clause, wrong_bit, wrong_bits, system_of, refusal_of};
 
 use masks::Mask;
 
 // A clause: the bits and wires wanted 1, and those wanted 0.
-#[derive(Drop)]
+#[derive(Clone, Copy)]
 pub struct Clause {
     pub ones: Mask,
     pub zeros: Mask,

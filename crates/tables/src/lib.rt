@@ -1,5 +1,6 @@
 // A list of clauses tested literal by literal and clause by clause, and the lists of a small system written out as a table. It shares no code with the
 // crates that it is compared with. Each function takes every argument.
+#![tactic(auto)]
 
 // Whether a bit wanted 1 is 1 or one wanted 0 is 0, literal by literal from bit 0 up.
 fn masks_hold(ones: u64, zeros: u64, word: u64) -> bool {

@@ -1,5 +1,7 @@
 // Texts by line, a reader that keeps a text and its place in it, and writing into a lent buffer. A function that holds a reader is proved by hand, so
 // the work is done by `line_length`, over a plain slice, and the two functions of the reader are thin.
+#![tactic(auto)]
+
 ghost use Rattle.std.specs.Prelude.{[], ◌∷◌, ◌≡◌, drop};
 ghost use Rattle.text.specs.Lines.{line_length};
 ghost use Rattle.text.specs.Places.{opened, moved};

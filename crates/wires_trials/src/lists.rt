@@ -5,7 +5,7 @@ use super::counts;
 const FILLED: u64 = 9;
 
 // What was found: how many states, and these in front of zeros.
-#[derive(Drop)]
+#[derive(Clone, Copy)]
 pub struct Row {
     pub count: usize,
     pub states: [u64; 33],

@@ -1,6 +1,7 @@
 // Systems with wires, each tried by every call: searches, checks of their evidence, whole and damaged, lists of the states that step into one, questions,
 // and pairs. Each answer is compared with a table that is made by trying all settings of the wires, and shares no code with the calls. The file `stdout`
 // is from `expected.py`, which makes the same systems and answers once more.
+#![tactic(auto)]
 
 mod checks;
 mod counts;

@@ -11,7 +11,7 @@ const ALL: u64 = 0xFFFF_FFFF_FFFF_FFFF;
 const NONE: u64 = ALL;
 
 // A question: whether it asks for a step, the level, the state to step to, and where it begins.
-#[derive(Drop)]
+#[derive(Clone, Copy)]
 pub struct Query {
     pub steps: bool,
     pub i: u32,

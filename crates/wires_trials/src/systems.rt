@@ -1,7 +1,7 @@
 // Which systems are tried: the bits of each, the wires that its lists use and those that are declared, the kinds of its lists and how dense they are.
 
 // A system's bits; the wires that step and bad may use, six at most, numbered from 0; by how many they are then shifted up; and how many are declared.
-#[derive(Drop)]
+#[derive(Clone, Copy)]
 pub struct Plan {
     pub n: u32,
     pub in_step: u32,
