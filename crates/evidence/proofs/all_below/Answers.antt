@@ -1,0 +1,25 @@
+use Prim.Native.Nat.{◌^◌, ◌-◌}
+use mathlib.Core.Path.{◌≡◌, refl, ◌∙◌}
+use native.Mathlib.Omega.{arith}
+use lib.Dec.{ltb}
+use lib.ListN.{length}
+use Rattle.masks.proofs.OneBit.{pow_within}
+use Rattle.evidence.proofs.Each.{Walked, each_ends, below_stops, below_passes}
+use borrow.Author.Rules.{rules}
+use Rattle.evidence.proofs.all_below.Goals as goal
+
+pub loop-j-init : goal.loop-j-init
+loop-j-init c = (c.power-end.ensures ∙ pow_within 64 _ (omega arith), (search rules, refl))
+
+pub returns-then-end-states : goal.returns-then-end-states
+returns-then-end-states c =
+    let inv = c.loop-j.invariant in
+    below_stops _ _ _ c.loop-j-test.true inv.1 (omega (arith, inv.0))
+
+pub loop-j-preserved : goal.loop-j-preserved
+loop-j-preserved c =
+    let inv = c.loop-j.invariant in
+    (inv.0, below_passes _ _ _ c.loop-j-test.true inv.1 (omega (arith, inv.0)))
+
+pub returns : goal.returns
+returns c = each_ends _ _ _ c.loop-j.invariant.1 c.loop-j-test.false

@@ -1,0 +1,29 @@
+use Prim.Native.Nat.{◌+◌, ◌^◌, ◌≤◌, ◌-◌}
+use mathlib.Core.Path.{◌≡◌, refl, sym, ap, ◌∙◌}
+use native.Mathlib.Omega.{arith}
+use lib.ListN.{length, drop}
+use Rattle.question.specs.Question.{answered}
+use Rattle.system.specs.System.{some_true, pair}
+use Rattle.evidence.specs.Check.{closed_from}
+use Rattle.evidence.proofs.Excluding.{closed_stops, closed_passes, closed_ends}
+use borrow.Author.Rules.{rules}
+use Rattle.evidence.proofs.closed.Goals as goal
+
+pub loop-j-init : goal.loop-j-init
+loop-j-init c = (search rules, search rules, refl)
+
+pub returns-in_default : goal.returns-in_default
+returns-in_default c =
+    sym (c.loop-j.invariant.2
+    ∙ closed_stops _ _ _ _ _ _ c.loop-j-test.true _ (sym c.step_outside-answer.ensures ∙ ap answered c.in_default.is))
+
+pub loop-j-preserved : goal.loop-j-preserved
+loop-j-preserved c =
+    let inv = c.loop-j.invariant in (
+      omega arith,
+      omega (arith, inv.1),
+      inv.2 ∙ closed_passes _ _ _ _ _ _ c.loop-j-test.true (sym c.step_outside-answer.ensures ∙ ap answered c.in-Nothing.is),
+    )
+
+pub returns : goal.returns
+returns c = sym (c.loop-j.invariant.2 ∙ closed_ends _ _ _ _ _ _ c.loop-j-test.false)

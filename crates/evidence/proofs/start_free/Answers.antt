@@ -1,0 +1,22 @@
+use Prim.Native.Nat.{◌-◌}
+use mathlib.Core.Bool.{not}
+use mathlib.Core.Path.{refl, sym, ap, ◌∙◌}
+use lib.ListN.{length}
+use Rattle.system.specs.System.{list_true}
+use Rattle.evidence.proofs.Each.{Walked, each_stops, each_passes, each_ends}
+use borrow.Author.Rules.{rules}
+use Rattle.evidence.proofs.start_free.Goals as goal
+
+pub loop-j-init : goal.loop-j-init
+loop-j-init c = (search rules, refl)
+
+pub returns-then-is_start : goal.returns-then-is_start
+returns-then-is_start c =
+    each_stops _ _ _ c.loop-j.invariant c.loop-j-test.true (ap not (sym c.is_start.ensures ∙ c.if-is_start.true))
+
+pub loop-j-preserved : goal.loop-j-preserved
+loop-j-preserved c =
+    each_passes _ _ _ c.loop-j.invariant c.loop-j-test.true (ap not (sym c.is_start.ensures ∙ c.if-is_start.false))
+
+pub returns : goal.returns
+returns c = each_ends _ _ _ c.loop-j.invariant c.loop-j-test.false

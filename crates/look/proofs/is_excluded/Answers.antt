@@ -1,0 +1,33 @@
+use Prim.Native.Nat.{ℕ, ◌≤◌, ◌<◌, ◌-◌}
+use mathlib.Core.Path.{◌≡◌, sym, ◌∙◌}
+use mathlib.Core.Bool.{false}
+use mathlib.Core.Logic.{⊎_elim}
+use native.Mathlib.Omega.{arith}
+use borrow.Author.Count.{below_none, below_more}
+use lib.ListN.{length}
+use Rattle.look.proofs.States.{entry, entry_other, entry_same, excluded_by, excluded_none}
+use borrow.Author.Rules.{rules}
+use Rattle.look.proofs.is_excluded.Goals as goal
+
+pub loop-j-init : goal.loop-j-init
+loop-j-init c = (search rules, below_none _)
+
+pub returns-then-at_level : goal.returns-then-at_level
+returns-then-at_level c =
+    sym (excluded_by _ _ _ _ _ c.loop-j-test.true
+    (entry_same _ _ _ _ _ c.if-states-j.true ∙ sym c.at_level.ensures ∙ c.if-at_level.true))
+
+pub loop-j-preserved : goal.loop-j-preserved
+loop-j-preserved c = (
+  omega arith,
+  below_more _ _ c.loop-j.invariant.1
+      (⊎_elim
+      (λ w. entry_same _ _ _ _ _ w.0.taken ∙ sym w.1.ensures ∙ w.2.left)
+      (λ w. entry_other _ _ _ _ _ w.left)
+      c.if-states-j.branch),
+)
+
+pub returns : goal.returns
+returns c =
+    let inv = c.loop-j.invariant in
+    sym (excluded_none _ _ _ _ (λ k l. inv.1 k (omega arith)))

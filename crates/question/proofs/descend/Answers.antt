@@ -1,0 +1,50 @@
+-- `question::descend` meets its contract: the highest open bit of the front is settled at 0 for a word that has a 0 there, the one in hand or one
+-- that is found, and at 1 if none is found. Assumes nothing.
+use mathlib.Core.Path.{sym, ap, ◌∙◌}
+use native.Mathlib.Omega.{arith}
+use lib.Count.{ones}
+use borrow.Author.Tests.{eqb-true, eqb-false}
+use Rattle.masks.specs.Word.{width, word_of}
+use Rattle.masks.proofs.Words.{zero_word}
+use Rattle.look.specs.Reason.{Setting, more}
+use Rattle.look.specs.Look.{setting}
+use Rattle.question.proofs.More.{more_sound, more_falls}
+use Rattle.question.proofs.Solving.{at_zero}
+use Rattle.question.proofs.Walk.{descends_zero, in_hand, descends_one}
+use Rattle.question.proofs.descend.Goals as goal
+
+pub returns-then-is_empty : goal.returns-then-is_empty
+returns-then-is_empty c =
+    let D = c.requires.0.stands in
+    let e = c.settle_at-zero.ensures ∙ ap (more (setting c.args.d.settled) (word_of c.top_open-bit.result)) zero_word in
+    rw e
+    (descends_zero D c.top_open-bit.ensures _
+    (in_hand D c.top_open-bit.ensures (sym c.and.ensures ∙ eqb-true _ _ (sym c.is_empty.ensures ∙ c.if-is_empty.true))))
+
+pub settle-f-requires : goal.settle-f-requires
+settle-f-requires c =
+    let D = c.requires.0.stands in
+    let e = c.settle_at-zero.ensures ∙ ap (more (setting c.args.d.settled) (word_of c.top_open-bit.result)) zero_word in
+    record {
+      valid = rw e (more_sound (at_zero D.sound c.top_open-bit.ensures.free) D.sound);
+      long = omega (
+        arith,
+        ap (λ (t : Setting). ones t.bits) e,
+        (more_falls (at_zero D.sound c.top_open-bit.ensures.free) D.sound).one,
+        c.requires.1,
+      );
+    }
+
+pub returns-in-Word : goal.returns-in-Word
+returns-in-Word c =
+    let D = c.requires.0.stands in
+    let e = c.settle_at-zero.ensures ∙ ap (more (setting c.args.d.settled) (word_of c.top_open-bit.result)) zero_word in
+    rw e (descends_zero D c.top_open-bit.ensures _ (rw (c.in-Word.is, e) at c.settle-f.ensures))
+
+pub returns-in-Nothing : goal.returns-in-Nothing
+returns-in-Nothing c =
+    let D = c.requires.0.stands in
+    let e = c.settle_at-zero.ensures ∙ ap (more (setting c.args.d.settled) (word_of c.top_open-bit.result)) zero_word in
+    rw c.settle_at-one.ensures
+    (descends_one D c.top_open-bit.ensures _ (rw (c.in-Nothing.is, e) at c.settle-f.ensures)
+    (λ z. eqb-false _ _ (sym c.is_empty.ensures ∙ c.if-is_empty.false) (c.and.ensures ∙ z)))

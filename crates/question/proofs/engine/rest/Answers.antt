@@ -1,0 +1,33 @@
+use Prim.Native.Nat.{◌-◌}
+use mathlib.Core.Path.{ap}
+use native.Mathlib.Omega.{arith}
+use lib.Count.{ones}
+use Rattle.masks.specs.Word.{width, word_of}
+use Rattle.look.specs.Condition.{region, fulfils}
+use Rattle.look.specs.Look.{setting}
+use Rattle.look.specs.Reason.{Setting}
+use Rattle.question.specs.Engine.{Comes}
+use Rattle.question.proofs.More.{more_falls}
+use Rattle.question.proofs.Rest.{follows_none, follows_more, follows_fails}
+use Rattle.question.proofs.Solving.{forced}
+use Rattle.question.proofs.engine.rest.Goals as goal
+
+pub loop-bit-init : goal.loop-bit-init
+loop-bit-init c = follows_none c.requires
+
+pub returns-in-Rest : goal.returns-in-Rest
+returns-in-Rest c = c.loop-bit.invariant
+
+pub returns-in-Failed : goal.returns-in-Failed
+returns-in-Failed c =
+    follows_fails c.loop-bit.invariant (rw c.in-Failed.is at c.forced-look.ensures)
+
+pub loop-bit-smaller : goal.loop-bit-smaller
+loop-bit-smaller c =
+    let ok = c.loop-bit.invariant.sound in
+    let f = more_falls (forced ok (rw c.in-Forced.is at c.forced-look.ensures)) ok in
+    omega (arith, ap (λ (t : Setting). ones t.bits) c.settle_at-r.ensures, f.one, f.most)
+
+pub loop-bit-preserved : goal.loop-bit-preserved
+loop-bit-preserved c =
+    rw c.settle_at-r.ensures (follows_more c.loop-bit.invariant (rw c.in-Forced.is at c.forced-look.ensures))

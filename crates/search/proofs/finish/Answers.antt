@@ -1,0 +1,14 @@
+-- `search::finish` meets its contract: each store is cleared behind its front, the levels have none. Assumes nothing.
+use mathlib.Core.Path.{◌∙◌}
+use Rattle.stores.proofs.Over.{over_take, over_none}
+use Rattle.call.specs.Call.{leaves}
+use Rattle.search.proofs.Closing.{stores_same}
+use Rattle.search.proofs.finish.Goals as goal
+
+pub returns : goal.returns
+unfolding leaves
+returns c =
+    stores_same
+    (c.clear_behind.ensures ∙ over_take _ _ c.requires.states)
+    (c.clear_levels.ensures ∙ over_none _)
+    (c.clear_behind-2.ensures ∙ over_take _ _ c.requires.path)

@@ -1,0 +1,18 @@
+-- `search::react::blocked` meets its contract: the state is stored or raised by `store`, and then the duty is settled by `settled`; without room
+-- the search ends. Assumes nothing.
+use native.Mathlib.Numerals.{add-one}
+use Rattle.call.specs.Promise.{stores}
+use Rattle.search.proofs.Keeping.{kept_fits, kept_not}
+use Rattle.search.proofs.react.blocked.Goals as goal
+
+pub returns-in-At : goal.returns-in-At
+returns-in-At c =
+    let o = c.store-r in
+    let w = rw add-one at (rw c.in-At.is at o.ensures) in
+    λ path. kept_fits _ _ _ _ _ _ _ _ w.fit w.store (c.settled.ensures (stores _ _ path))
+
+pub returns-in-Full : goal.returns-in-Full
+returns-in-Full c =
+    let o = c.store-r in
+    let w = rw add-one at (rw c.in-Full.is at o.ensures) in
+    λ path. kept_not _ _ _ _ _ _ w

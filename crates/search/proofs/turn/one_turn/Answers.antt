@@ -1,0 +1,27 @@
+-- `search::turn::one_turn` meets its contract: each phase's function moves as the definition's turn does from there. Assumes nothing.
+use Rattle.search.proofs.Turns.{raise_ready}
+use Rattle.search.proofs.turn.one_turn.Goals as goal
+
+pub look-requires : goal.look-requires
+look-requires c =
+    rw c.in-Look.is at c.requires
+
+pub settle-requires : goal.settle-requires
+settle-requires c =
+    rw c.in-Settle.is at c.requires
+
+pub raise-requires : goal.raise-requires
+raise-requires c =
+    raise_ready (rw c.in-Raise.is at c.requires)
+
+pub returns-in-Look : goal.returns-in-Look
+returns-in-Look c =
+    rw c.in-Look.is (c.look.ensures c.args.step.now)
+
+pub returns-in-Settle : goal.returns-in-Settle
+returns-in-Settle c =
+    rw c.in-Settle.is (c.settle.ensures c.args.bad.now)
+
+pub returns-in-Raise : goal.returns-in-Raise
+returns-in-Raise c =
+    rw c.in-Raise.is (c.raise.ensures c.args.bad.now c.args.path.now)

@@ -1,0 +1,31 @@
+-- `search::turn::settle` meets its contract: the state of the duty is read at the index of its level, and the answer is taken in by `deeper`, or,
+-- with none, by `blocked`. Assumes nothing.
+use native.Mathlib.Numerals.{add-one}
+use native.Mathlib.Omega.{arith}
+use Rattle.search.proofs.Taken.{moves_to, settle_some, settle_none}
+use Rattle.search.proofs.Turns.{ready_asks}
+use Rattle.search.proofs.turn.settle.Goals as goal
+
+pub step_state-answer-requires : goal.step_state-answer-requires
+step_state-answer-requires c = (ready_asks c.requires).holds
+
+pub blocked-requires : goal.blocked-requires
+blocked-requires c =
+    let w = c.requires in
+    record { below = omega (arith, w.shape.placed); holds = (ready_asks w).holds }
+
+pub returns-in-State : goal.returns-in-State
+returns-in-State c =
+    let a = c.args in
+    let w = c.wide.ensures in
+    let e = rw (w, add-one a.k) at (rw c.in-State.is at c.step_state-answer.ensures) in
+    λ bad. moves_to (settle_some _ _ _ _ (ready_asks c.requires) _ _ _ _ _ _ e) (c.deeper.ensures _ _)
+
+pub returns-in-Nothing : goal.returns-in-Nothing
+returns-in-Nothing c =
+    let a = c.args in
+    let w = c.wide.ensures in
+    let told = c.in-Nothing.is in
+    let e = rw (w, add-one a.k) at (rw told at c.step_state-answer.ensures) in
+    let f = rw (w, add-one a.k) at (c.blocked.ensures a.path.now) in
+    λ bad. moves_to (settle_none _ _ _ _ (ready_asks c.requires) _ _ _ _ _ e) f
