@@ -32,7 +32,7 @@ every_append p (x ∷ xs) b = ap (λ y. p x && y) (every_append p xs b) ∙ sym 
 
 pub every_mem : {A : Type 0} (p : A → Bool) (l : List A) → (every p l ≡ true) ↔ ((x : A) → Memᴰ x l → p x ≡ true)
 unfolding every
-every_mem p [] = (λ e x m. absurd (Memᴰ.not_nil m), λ h. refl)
+every_mem p [] = (λ e x m. absurd (Memᴰ.not-nil m), λ h. refl)
 every_mem p (y ∷ ys) = (
   λ e x m.
       let q = both (p y) (every p ys) e in

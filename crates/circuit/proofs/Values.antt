@@ -61,7 +61,7 @@ gate_unlisted (g ∷ gs) v e =
 
 pub gate_listed : (gs : List Gate) (g : Gate) → Memᴰ g gs → listed (outs gs) g.out ≡ true
 unfolding listed
-gate_listed [] g m = absurd (Memᴰ.not_nil m)
+gate_listed [] g m = absurd (Memᴰ.not-nil m)
 gate_listed (h ∷ gs) g m =
     test (eqb h.out g.out)
     (λ q. rw (q, listed))
@@ -71,7 +71,7 @@ gate_listed (h ∷ gs) g m =
 -- where no variable is defined twice, each gate is found by its variable
 pub gate_of_lem : (gs : List Gate) → Distinct (outs gs) → (g : Gate) → Memᴰ g gs → gate_of gs g.out ≡ some g
 unfolding gate_of
-gate_of_lem [] d g m = absurd (Memᴰ.not_nil m)
+gate_of_lem [] d g m = absurd (Memᴰ.not-nil m)
 gate_of_lem (h ∷ gs) d g m =
     ⊎_elim
     (λ e. rw e (rw (eq-eqb h.out h.out refl, gate_of)))

@@ -41,6 +41,7 @@ three full m = omega arith
 three shortened m = omega arith
 
 opened : (r : Rounds) (m : ℕ) → 1 ≤ m → 2 + 3 * up_to m ≤ exact r m
+opened full zero h = elim h [ ]
 opened full (suc m) h = omega (arith, up_to_twice (suc m), suc-mul m (suc m))
 opened shortened m h = omega arith
 

@@ -13,14 +13,14 @@ use Rattle.ic3.specs.Demands.{Reach, starts, steps, NoStart}
 use Rattle.ic3.proofs.Least.{least_is}
 
 -- Without a start state no state is reachable, and the search ends after its first question.
-module _ (M : Model) (no_start : NoStart M) where
+module _ (M : Model) (none_starts : NoStart M) where
   pub nothing_reachable : {k s : ℕ} → Reach M k s → ⊥
-  nothing_reachable (starts {s = s} h e) = clash e (no_start s h)
+  nothing_reachable (starts {s = s} h e) = clash e (none_starts s h)
   nothing_reachable (steps r h e) = nothing_reachable r
 
   pub ends_at_once : (r : Rounds) (room left : ℕ) → searched r M room (suc left) ≡ record { verdict = gave_up no_start; questions = 1 }
   unfolding searched begun
-  ends_at_once r room left = rw (least_is M.size M.start none no_start)
+  ends_at_once r room left = rw (least_is M.size M.start none none_starts)
 
 -- The path is t, then the states of the open duties from level 1 up to N, so N + 1 states.
 pub path_states : (N : ℕ) (st : List Entry) (s : ℕ) (ds : List ℕ) (t : ℕ) → Placed N st (settle 0 s ds) → length (t ∷ (s ∷ ds)) ≡ suc N
