@@ -32,7 +32,7 @@ module _ (gs : List Gate) (d : Distinct (outs gs)) where
           let p = both (settled gs k (r.gate.left / 2)) (settled gs k (r.gate.right / 2)) (rw (q, settled) at e) in
           (k, refl, ⊎_elim (λ y. rw y p.0) (λ y. rw y p.1) r.operand)
 
-  depends_less : {u v : ℕ} → Depends gs v u → (k : ℕ) → settled gs k u ≡ true → (j : ℕ) × (j < k) × (settled gs j v ≡ true)
+  depends_less : {v u : ℕ} → Depends gs v u → (k : ℕ) → settled gs k u ≡ true → (j : ℕ) × (j < k) × (settled gs j v ≡ true)
   depends_less {u} {v} (once r) k e = let p = uses_less k u v r e in (p.0, omega (arith, p.1), p.2)
   depends_less {u} {v} (more {t = t} r w) k e =
       let p = uses_less k u t r e in

@@ -7,13 +7,13 @@ use Rattle.line.proofs.Digits.{digit_number, digit_letter, digit_none}
 use Rattle.line.proofs.digit_value.Goals as goal
 
 pub returns-then-c-le57 : goal.returns-then-c-le57
-returns-then-c-le57 c = sym (digit_number _ c.if-c-ge48.true (leb-true _ _ c.if-c-le57.true))
+returns-then-c-le57 c = sym (digit_number _ c.if-c-ge48.true c.if-c-le57.true)
 
 pub returns-then-c-le70 : goal.returns-then-c-le70
-returns-then-c-le70 c = sym (digit_letter _ c.if-c-ge65.true (leb-true _ _ c.if-c-le70.true))
+returns-then-c-le70 c = sym (digit_letter _ c.if-c-ge65.true c.if-c-le70.true)
 
 pub returns : goal.returns
 returns c =
     sym (digit_none _
-    (⊎_elim (λ t. inr (leb-false _ _ t.1.left)) (λ t. inl (omega arith)) c.else-c-ge48.branch)
-    (⊎_elim (λ t. inr (leb-false _ _ t.1.left)) (λ t. inl (omega arith)) c.else-c-ge65.branch))
+    (⊎_elim (λ t. inr t.1) (λ t. inl (omega arith)) c.else-c-ge48.either)
+    (⊎_elim (λ t. inr t.1) (λ t. inl (omega arith)) c.else-c-ge65.either))

@@ -13,9 +13,8 @@ pub returns-then-kind-stage : goal.returns-then-kind-stage
 returns-then-kind-stage c = sym (place_below _ _ (omega arith) c.if-kind-stage.true)
 
 pub returns-then-kind-le3 : goal.returns-then-kind-le3
-returns-then-kind-le3 c = sym (place_clause _ _ (omega arith) (omega arith) (leb-true _ _ c.if-kind-le3.true))
+returns-then-kind-le3 c = sym (place_clause _ _ (omega arith) (omega arith) c.if-kind-le3.true)
 
 pub returns : goal.returns
 returns c =
-    sym (place_last _ _ (omega arith) (omega arith)
-    (⊎_elim (λ t. inr (leb-false _ _ t.1.left)) (λ t. inl (omega arith)) c.else-kind-ge1.branch))
+    sym (place_last _ _ (omega arith) (omega arith) (⊎_elim (λ t. inr t.1) (λ t. inl (omega arith)) c.else-kind-ge1.either))

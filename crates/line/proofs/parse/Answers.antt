@@ -10,29 +10,6 @@ use Rattle.line.proofs.Numbers.{number_two}
 use Rattle.line.proofs.Saying.{Right, number_within, sum_wrong, place_wrong, length_wrong, right_at, size_said, count_said, clause_said}
 use Rattle.line.proofs.parse.Goals as goal
 
--- behind the last test that refuses: a frame whose sum, kind and length are right
-right : (here : tie.Else4)
-    → (let framed = here.before.before.before.before.before.before.before.before in
-    let a = framed.before.before.args in
-    Right a.line.now framed.frame-length.result a.stage here.before.before.before.before.byte_at.result)
-right here =
-    let sized = here.before in
-    let placed = sized.before.before in
-    let kinds = placed.before in
-    let sums = kinds.before.before in
-    let framed = sums.before.before in
-    right_at _ _ _ framed.frame-length.ensures sums.before.if1.false sums.sum_of.ensures kinds.before.if2.false
-    kinds.byte_at.ensures placed.in_place.ensures (not-false _ sized.before.if3.false) sized.length-for.ensures here.if4.false
-
--- and a number within that frame
-inside : (here : tie.Else4) (j k : ℕ) {i : ℕ}
-    → (let framed = here.before.before.before.before.before.before.before.before in
-    let a = framed.before.before.args in
-    i ≡ 2 * j → j + k ≤ framed.frame-length.result → k ≤ 8 → NumberAt a.line.now i k)
-inside here j k =
-    let framed = here.before.before.before.before.before.before.before.before in
-    number_within _ _ framed.frame-length.ensures j k
-
 pub returns-then-count-eq0 : goal.returns-then-count-eq0
 returns-then-count-eq0 c = sym (c.frame_length-count.ensures.malformed c.if-count-eq0.true _)
 
@@ -43,33 +20,35 @@ returns-then-sum_of-ne0 c =
 pub returns-then-not-in_place : goal.returns-then-not-in_place
 returns-then-not-in_place c =
     place_wrong _ _ _ c.frame_length-count.ensures c.if-count-eq0.false c.sum_of.ensures c.if-sum_of-ne0.false
-    c.byte_at-kind.ensures c.in_place.ensures (not-true _ c.if-not-in_place.true)
+    c.byte_at-kind.ensures c.in_place.ensures c.if-not-in_place.true
 
 pub returns-then-count-length_for : goal.returns-then-count-length_for
 returns-then-count-length_for c =
     length_wrong _ _ _ c.frame_length-count.ensures c.if-count-eq0.false c.sum_of.ensures c.if-sum_of-ne0.false
-    c.byte_at-kind.ensures c.in_place.ensures (not-false _ c.if-not-in_place.false) c.length_for.ensures c.if-count-length_for.true
+    c.byte_at-kind.ensures c.in_place.ensures c.if-not-in_place.false c.length_for.ensures c.if-count-length_for.true
 
 pub byte_at-requires : goal.byte_at-requires
 byte_at-requires c = omega (arith, length_size _ c.if-kind-eq0.true)
 
 pub returns-then-kind-eq0 : goal.returns-then-kind-eq0
-returns-then-kind-eq0 c = size_said (right c) c.if-kind-eq0.true c.byte_at.ensures
+returns-then-kind-eq0 c = size_said (right_at _ _ _ c.frame_length-count.ensures c.if-count-eq0.false c.sum_of.ensures c.if-sum_of-ne0.false
+    c.byte_at-kind.ensures c.in_place.ensures c.if-not-in_place.false c.length_for.ensures c.if-count-length_for.false) c.if-kind-eq0.true c.byte_at.ensures
 
 pub number_at-requires : goal.number_at-requires
-number_at-requires c = inside c 1 2 refl (omega (arith, length_count _ c.if-kind-eq15.true)) (omega arith)
+number_at-requires c = number_within _ _ c.frame_length-count.ensures 1 2 refl (omega (arith, length_count _ c.if-kind-eq15.true)) (omega arith)
 
 pub overflow_cast-result : goal.overflow_cast-result
 overflow_cast-result c =
-    let within = inside c 1 2 refl (omega (arith, length_count _ c.if-kind-eq15.true)) (omega arith) in
+    let within = number_within _ _ c.frame_length-count.ensures 1 2 refl (omega (arith, length_count _ c.if-kind-eq15.true)) (omega arith) in
     record { fits = omega (arith, number_two _ _ within c.number_at.ensures) }
 
 pub returns-then-kind-eq15 : goal.returns-then-kind-eq15
-returns-then-kind-eq15 c = count_said (right c) c.if-kind-eq15.true c.number_at.ensures
+returns-then-kind-eq15 c = count_said (right_at _ _ _ c.frame_length-count.ensures c.if-count-eq0.false c.sum_of.ensures c.if-sum_of-ne0.false
+    c.byte_at-kind.ensures c.in_place.ensures c.if-not-in_place.false c.length_for.ensures c.if-count-length_for.false) c.if-kind-eq15.true c.number_at.ensures
 
 pub number_at-requires-2 : goal.number_at-requires-2
 number_at-requires-2 c =
-    inside c 1 _ refl
+    number_within _ _ c.frame_length-count.ensures 1 _ refl
     (omega (arith, length_clause _ c.if-kind-eq0.false c.if-kind-eq15.false, c.mask_width-width.ensures))
     (width_most _ c.mask_width-width.ensures)
 
@@ -81,11 +60,12 @@ overflow_add-width c = record { fits = omega (arith, width_most _ c.mask_width-w
 
 pub number_at-requires-3 : goal.number_at-requires-3
 number_at-requires-3 c =
-    inside c (1 + c.mask_width-width.result) _ (omega arith)
+    number_within _ _ c.frame_length-count.ensures (1 + c.mask_width-width.result) _ (omega arith)
     (omega (arith, length_clause _ c.if-kind-eq0.false c.if-kind-eq15.false, c.mask_width-width.ensures))
     (width_most _ c.mask_width-width.ensures)
 
 pub returns : goal.returns
 returns c =
-    clause_said (right c) c.if-kind-eq0.false c.if-kind-eq15.false c.mask_width-width.ensures
+    clause_said (right_at _ _ _ c.frame_length-count.ensures c.if-count-eq0.false c.sum_of.ensures c.if-sum_of-ne0.false
+    c.byte_at-kind.ensures c.in_place.ensures c.if-not-in_place.false c.length_for.ensures c.if-count-length_for.false) c.if-kind-eq0.false c.if-kind-eq15.false c.mask_width-width.ensures
     c.number_at-2.ensures c.number_at-3.ensures

@@ -10,14 +10,14 @@ use Rattle.system.proofs.list_true.Goals as goal
 pub returns-then-not-clause_true : goal.returns-then-not-clause_true
 returns-then-not-clause_true c =
     sym (c.loop-i.invariant.1
-    ∙ list_stops _ _ _ _ c.loop-i-test.true (sym c.clause_true.ensures ∙ not-true _ c.if-not-clause_true.true))
+    ∙ list_stops _ _ _ _ c.loop-i-test.true (sym c.clause_true.ensures ∙ c.if-not-clause_true.true))
 
 pub loop-i-preserved : goal.loop-i-preserved
 loop-i-preserved c =
     (
       omega arith,
       c.loop-i.invariant.1
-          ∙ list_passes _ _ _ _ c.loop-i-test.true (sym c.clause_true.ensures ∙ not-false _ c.if-not-clause_true.false),
+          ∙ list_passes _ _ _ _ c.loop-i-test.true (sym c.clause_true.ensures ∙ c.if-not-clause_true.false),
     )
 
 pub returns : goal.returns
