@@ -1,8 +1,8 @@
-// Texts by line, a reader that keeps a text and its place in it, and writing into a lent buffer. A function that holds a reader is proved by hand, so
-// the work is done by `line_length`, over a plain slice, and the two functions of the reader are thin.
+// Texts by line, a reader that keeps a text and its place in it, and writing into a lent buffer. The work is done by `line_length`, over a plain slice,
+// and the two functions of the reader are thin.
 #![tactic(auto)]
 
-ghost use Rattle.std.specs.Prelude.{[], ◌∷◌, ◌≡◌, drop};
+ghost use Rattle.std.specs.Prelude.{[], ◌∷◌, ◌≡◌, ◌+◌, drop};
 ghost use Rattle.text.specs.Lines.{line_length};
 ghost use Rattle.text.specs.Places.{opened, moved};
 ghost use Rattle.text.specs.Writing.{laid};
@@ -39,11 +39,17 @@ pub fn new<'a>(text: &'a [u8]) -> Reader<'a>
 pub fn next_line<'a>(r: Reader<'a>) -> Reader<'a>
     ensures { result ≡ moved r.entry }
 {
-    let len = line_length(r.text, r.at);
     Reader {
         text: r.text,
-        at: r.at + len,
+        at: behind(r.text, r.at),
     }
+}
+
+// The index behind the line at this index.
+fn behind(text: &[u8], at: usize) -> usize
+    ensures { result ≡ at + line_length (drop at text.now) }
+{
+    at + line_length(text, at)
 }
 
 // One byte at this index, if the buffer reaches so far.
