@@ -8,7 +8,7 @@ pub returns-then-r-ge-MOST_CLAUSE_LINES : goal.returns-then-r-ge-MOST_CLAUSE_LIN
 returns-then-r-ge-MOST_CLAUSE_LINES c = more_last _ _ _ _ _ _ (omega arith)
 
 pub returns-then-not-room : goal.returns-then-not-room
-returns-then-not-room c = more_full _ _ _ _ _ _ (omega arith) (not-true _ c.if-not-room.true)
+returns-then-not-room c = more_full _ _ _ _ _ _ (omega arith) c.if-not-room.true
 
 pub returns : goal.returns
-returns c = more_on _ _ _ _ _ _ (omega arith) (not-false _ c.if-not-room.false)
+returns c = more_on _ _ _ _ _ _ (omega arith) c.if-not-room.false
