@@ -7,5 +7,4 @@ pub returns : goal.returns
 unfolding scan_stores
 returns c =
     let s = c.search-outcome in
-    let last = s.new.1.1.1.1.1 in
-    rw (levels_apart s.result last.0 last.1.1.0 _ _ s.ensures.equation) c.put_outcome.ensures
+    rw (levels_apart s.result s.new.states s.new.path _ _ s.ensures.equation) c.put_outcome.ensures
