@@ -2,14 +2,19 @@
 // The file `args` has the name of each house file or circuit and behind it that of its text. A circuit begins with `aag`.
 #![tactic(auto)]
 
-ghost use Rattle.std.specs.Prelude.{◌+◌, ◌^◌, ◌≤◌, ◌<◌, length};
+ghost use Rattle.std.specs.Prelude.{◌+◌, ◌^◌, ◌≤◌, ◌<◌, length, IfOk};
 
-use libc::STDOUT_FILENO;
+use std::io::Read;
+use std::rt::Files;
+use std::{env, fs, io};
 
 // The longest file.
 const FILE: usize = 38000;
 
 const ANSWER: usize = 13359;
+
+// The longest name.
+const NAME: usize = 64;
 
 const BLANK: u8 = 32;
 
@@ -20,18 +25,32 @@ const TELLS: u32 = 4;
 
 const TOLD: u32 = 5;
 
-// What the file holds, as far as there is room; nothing if it cannot be opened.
-fn read_file(name: &[u8], text: &mut [u8]) -> usize
-    ensures { result ≤ length text.new }
+// What is left of the file, as far as there is room.
+fn read_full<R: Read>(file: &mut R, text: &mut [u8]) -> io::Result<usize>
+    ensures { IfOk result (λ n. n ≤ length text.new) }
 {
-    let file = os::open_read(name);
-    if file < 0 {
-        os::fail(name);
-        return 0;
+    let mut done = 0;
+    while done < text.len() {
+        let n = file.read(&mut text[done..])?;
+        if n == 0 {
+            break;
+        }
+        done += n;
     }
-    let length = io::read_full(file, text);
-    libc::close(file);
-    length
+    Ok(done)
+}
+
+// What the file holds, as far as there is room; nothing if it cannot be opened.
+fn read_file(rt: &(impl Files + Eprint), name: &str, text: &mut [u8]) -> io::Result<usize>
+    ensures { IfOk result (λ n. n ≤ length text.new) }
+{
+    match fs::open(rt, name) {
+        Ok(mut file) => read_full(&mut file, text),
+        Err(error) => {
+            eprintln!(rt; "{name}: {error}")?;
+            Ok(0)
+        }
+    }
 }
 
 // Where a line stands behind this byte.
@@ -142,32 +161,39 @@ fn room() -> [u8; FILE] {
     [0; FILE]
 }
 
+// Argument i; an argument that is missing, or longer than a name may be, is empty.
+fn name(names: &Vec<String>, i: usize) -> &str {
+    match names.get(i) {
+        Some(it) if it.len() <= NAME => it.as_str(),
+        _ => "",
+    }
+}
+
 // The example whose names are argument i and the one behind it.
-fn example(i: usize)
+fn example(rt: &(impl Files + Print + Eprint), names: &Vec<String>, i: usize) -> io::Result<()>
     requires { i + 1 < 2 ^ 64 }
 {
-    let mut file_name = [0u8; 64];
-    let mut text_name = [0u8; 64];
+    let file_name = name(names, i);
+    let text_name = name(names, i + 1);
     let mut file = room();
     let mut text = room();
-    let file_end = os::arg(i, &mut file_name);
-    let text_end = os::arg(i + 1, &mut text_name);
-    let file_length = read_file(&file_name[..file_end], &mut file);
-    let text_length = read_file(&text_name[..text_end], &mut text);
-    io::write_all(STDOUT_FILENO, &file_name[..file_end]);
+    let file_length = read_file(rt, file_name, &mut file)?;
+    let text_length = read_file(rt, text_name, &mut text)?;
     if as_told(&file[..file_length], &text[..text_length]) {
-        io::write_all(STDOUT_FILENO, b": as told\n");
+        println!(rt; "{file_name}: as told")
     } else {
-        io::write_all(STDOUT_FILENO, b": not as told\n");
+        println!(rt; "{file_name}: not as told")
     }
 }
 
 // Argument 0 is the program's own name.
-fn main() {
-    let pairs = os::arg_count() / 2;
+fn main(rt: HostRuntime) -> io::Result<()> {
+    let names: Vec<String> = env::args(&rt)?.collect(rt.alloc())?;
+    let pairs = names.len() / 2;
     let mut k = 0;
     while k < pairs {
-        example(2 * k + 1);
+        example(&rt, &names, 2 * k + 1)?;
         k += 1;
     }
+    Ok(())
 }
