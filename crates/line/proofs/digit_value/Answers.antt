@@ -2,7 +2,6 @@
 use mathlib.Core.Path.{sym}
 use mathlib.Core.Logic.{inl, inr, ⊎_elim}
 use native.Mathlib.Omega.{arith}
-use borrow.Author.Tests.{leb-true, leb-false}
 use Rattle.line.proofs.Digits.{digit_number, digit_letter, digit_none}
 use Rattle.line.proofs.digit_value.Goals as goal
 

@@ -1,6 +1,5 @@
-use Prim.Native.Nat.{◌-◌, ◌<◌}
 use native.Mathlib.Omega.{arith}
-use Rattle.line.proofs.Digits.{AllDigits, digits_more}
+use Rattle.line.proofs.Digits.{digits_more}
 use Rattle.line.proofs.Malformed.{last_byte, no_frame, a_frame}
 use borrow.Author.Rules.{rules}
 use Rattle.line.proofs.frame_length.Goals as goal

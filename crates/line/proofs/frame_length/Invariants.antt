@@ -1,9 +1,7 @@
 -- `line::frame_length` meets its contract: each test that fails tells that the line has not the form. The loop's invariant: the first j bytes
 -- are digits. The measure is what is left of the line. Assumes nothing.
 use Prim.Native.Nat.{◌-◌, ◌<◌}
-use native.Mathlib.Omega.{arith}
-use Rattle.line.proofs.Digits.{AllDigits, digits_more}
-use Rattle.line.proofs.Malformed.{last_byte, no_frame, a_frame}
+use Rattle.line.proofs.Digits.{AllDigits}
 use Rattle.line.proofs.frame_length.Given as goal
 
 abbrev pub invariant-loop-j : goal.invariant-loop-j

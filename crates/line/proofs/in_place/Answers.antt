@@ -2,7 +2,6 @@
 use mathlib.Core.Path.{sym}
 use mathlib.Core.Logic.{inl, inr, ⊎_elim}
 use native.Mathlib.Omega.{arith}
-use borrow.Author.Tests.{leb-true, leb-false}
 use Rattle.line.proofs.Placing.{place_first, place_below, place_clause, place_last}
 use Rattle.line.proofs.in_place.Goals as goal
 

@@ -1,11 +1,9 @@
 -- `line::number_at` meets its contract. The loop's invariant: the number so far is that of the first j bytes. With at most seven of them below
 -- 256 there is room for one more. The measure is what is left of them. Assumes nothing.
 use Prim.Native.Nat.{◌-◌, ◌≤◌}
-use mathlib.Core.Path.{◌≡◌, refl}
-use native.Mathlib.Omega.{arith}
+use mathlib.Core.Path.{◌≡◌}
 use Rattle.line.specs.Text.{number}
 use Rattle.line.specs.Inner.{frame_at}
-use Rattle.line.proofs.Numbers.{number_more, number_seven}
 use Rattle.line.proofs.number_at.Given as goal
 
 abbrev pub invariant-loop-j : goal.invariant-loop-j

@@ -1,13 +1,11 @@
 -- `line::parse` meets its contract: its tests are those of the definition, in the order of the refusals, on the frame that is read by index.
 -- Assumes nothing.
-use Prim.Native.Nat.{ℕ, ◌+◌, ◌*◌, ◌≤◌}
-use mathlib.Core.Path.{◌≡◌, refl, sym}
+use Prim.Native.Nat.{◌+◌}
+use mathlib.Core.Path.{refl, sym}
 use native.Mathlib.Omega.{arith}
-use borrow.Author.Tests.{not-true, not-false}
-use Rattle.line.specs.Inner.{NumberAt}
 use Rattle.line.proofs.Placing.{width_most, length_size, length_count, length_clause}
 use Rattle.line.proofs.Numbers.{number_two}
-use Rattle.line.proofs.Saying.{Right, number_within, sum_wrong, place_wrong, length_wrong, right_at, size_said, count_said, clause_said}
+use Rattle.line.proofs.Saying.{number_within, sum_wrong, place_wrong, length_wrong, right_at, size_said, count_said, clause_said}
 use Rattle.line.proofs.parse.Goals as goal
 
 pub returns-then-count-eq0 : goal.returns-then-count-eq0

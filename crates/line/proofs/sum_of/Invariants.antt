@@ -1,12 +1,9 @@
 -- `line::sum_of` meets its contract. The loop's invariant: the total is the sum of the first j bytes, each at most 272. The measure is what is
 -- left of them. Assumes nothing.
 use Prim.Native.Nat.{◌-◌, ◌*◌, ◌≤◌}
-use mathlib.Core.Path.{◌≡◌, refl}
-use native.Mathlib.Omega.{arith}
+use mathlib.Core.Path.{◌≡◌}
 use Rattle.line.specs.Text.{sum}
 use Rattle.line.specs.Inner.{frame_at}
-use Rattle.line.proofs.Digits.{byte_most}
-use Rattle.line.proofs.Numbers.{sum_more}
 use Rattle.line.proofs.sum_of.Given as goal
 
 abbrev pub invariant-loop-j : goal.invariant-loop-j

@@ -1,5 +1,5 @@
 -- `small_systems::digest` is safe and ends. The measure is what is left of the list. Assumes nothing.
-use Rattle.std.proofs.Common.{◌-◌, length, rules}
+use Rattle.std.proofs.Common.{◌-◌, length}
 use Rattle.small_systems.proofs.digest.Given as goal
 
 abbrev pub invariant-loop-j : goal.invariant-loop-j

@@ -1,6 +1,6 @@
 -- `small_systems::distances` is safe and ends. The loop's invariant: the store keeps its length. The measure is how many rounds are
 -- left. Assumes nothing.
-use Rattle.std.proofs.Common.{◌≡◌, ◌-◌, length, rules}
+use Rattle.std.proofs.Common.{◌≡◌, ◌-◌, length}
 use Rattle.small_systems.proofs.distances.Given as goal
 
 abbrev pub invariant-loop-d : goal.invariant-loop-d

@@ -1,5 +1,5 @@
 -- `small_systems::excludes` is safe and ends. The measure is how many pairs are left. Assumes nothing.
-use Rattle.std.proofs.Common.{◌-◌, rules}
+use Rattle.std.proofs.Common.{◌-◌}
 use Rattle.small_systems.proofs.excludes.Given as goal
 
 abbrev pub invariant-loop-j : goal.invariant-loop-j

@@ -1,5 +1,5 @@
 -- `small_systems::is_path` is safe and ends. The measure is what is left of the path. Assumes nothing.
-use Rattle.std.proofs.Common.{◌-◌, length, rules}
+use Rattle.std.proofs.Common.{◌-◌, length}
 use Rattle.small_systems.proofs.is_path.Given as goal
 
 abbrev pub invariant-loop-j : goal.invariant-loop-j

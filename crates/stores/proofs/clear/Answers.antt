@@ -1,7 +1,5 @@
-use Prim.Native.Nat.{◌-◌}
 use native.Mathlib.Omega.{arith}
-use lib.ListN.{length}
-use Rattle.stores.proofs.Clearing.{Cleared, cleared_more, cleared_all}
+use Rattle.stores.proofs.Clearing.{cleared_more, cleared_all}
 use Rattle.stores.proofs.clear.Goals as goal
 
 pub loop-j-preserved : goal.loop-j-preserved

@@ -1,8 +1,7 @@
 -- `stores::clear_levels` meets its contract: its loop keeps `Cleared` of `Clearing.antt`. The measure is what is left of the length. Assumes nothing.
 use Prim.Native.Nat.{◌-◌}
-use native.Mathlib.Omega.{arith}
 use lib.ListN.{length}
-use Rattle.stores.proofs.Clearing.{Cleared, cleared_more, cleared_all}
+use Rattle.stores.proofs.Clearing.{Cleared}
 use Rattle.stores.proofs.clear_levels.Given as goal
 
 abbrev pub invariant-loop-j : goal.invariant-loop-j

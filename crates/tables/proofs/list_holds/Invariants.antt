@@ -1,5 +1,5 @@
 -- `tables::list_holds` is safe and ends. The measure is what is left of the length. Assumes nothing.
-use Rattle.std.proofs.Common.{◌-◌, length, rules}
+use Rattle.std.proofs.Common.{◌-◌, length}
 use Rattle.tables.proofs.list_holds.Given as goal
 
 abbrev pub invariant-loop-j : goal.invariant-loop-j

@@ -1,5 +1,5 @@
 -- `tables::masks_hold` is safe and ends. The measure is how many literals there still can be. Assumes nothing.
-use Rattle.std.proofs.Common.{◌-◌, rules}
+use Rattle.std.proofs.Common.{◌-◌}
 use Rattle.tables.proofs.masks_hold.Given as goal
 
 abbrev pub invariant-loop-k : goal.invariant-loop-k

@@ -1,5 +1,5 @@
 -- `tables::some_holds` is safe and ends. The measure is how many settings are left. Assumes nothing.
-use Rattle.std.proofs.Common.{◌-◌, rules}
+use Rattle.std.proofs.Common.{◌-◌}
 use Rattle.tables.proofs.some_holds.Given as goal
 
 abbrev pub invariant-loop-x : goal.invariant-loop-x

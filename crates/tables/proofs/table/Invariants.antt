@@ -1,5 +1,5 @@
 -- `tables::table` is safe and ends. The loop's invariant: the store keeps its length. The measure is how many entries of the table are left. Assumes nothing.
-use Rattle.std.proofs.Common.{◌≡◌, ◌-◌, length, rules}
+use Rattle.std.proofs.Common.{◌≡◌, ◌-◌, length}
 use Rattle.tables.proofs.table.Given as goal
 
 abbrev pub invariant-loop-j : goal.invariant-loop-j

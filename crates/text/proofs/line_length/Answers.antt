@@ -1,8 +1,4 @@
-use Prim.Native.Nat.{◌+◌, ◌-◌, ◌≤◌}
-use mathlib.Core.Path.{◌≡◌}
 use native.Mathlib.Omega.{arith}
-use lib.ListN.{length, drop}
-use Rattle.text.specs.Lines.{line_length}
 use Rattle.text.proofs.Lines.{length_ended, length_feed_at, length_other_at}
 use Rattle.text.proofs.line_length.Goals as goal
 

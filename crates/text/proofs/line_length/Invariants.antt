@@ -2,10 +2,8 @@
 -- on. The measure is what is left of the text. Assumes nothing.
 use Prim.Native.Nat.{◌+◌, ◌-◌, ◌≤◌}
 use mathlib.Core.Path.{◌≡◌}
-use native.Mathlib.Omega.{arith}
 use lib.ListN.{length, drop}
 use Rattle.text.specs.Lines.{line_length}
-use Rattle.text.proofs.Lines.{length_ended, length_feed_at, length_other_at}
 use Rattle.text.proofs.line_length.Given as goal
 
 abbrev pub invariant-loop-i : goal.invariant-loop-i
