@@ -2,7 +2,7 @@
 // and the two functions of the reader are thin.
 #![tactic(auto)]
 
-ghost use Rattle.std.specs.Prelude.{[], ◌∷◌, ◌≡◌, ◌+◌, drop};
+ghost use Rattle.std.specs.Prelude.{[], ◌∷◌, ◌≡◌, drop};
 ghost use Rattle.text.specs.Lines.{line_length};
 ghost use Rattle.text.specs.Places.{opened, moved};
 ghost use Rattle.text.specs.Writing.{laid};
@@ -39,17 +39,11 @@ pub fn new<'a>(text: &'a [u8]) -> Reader<'a>
 pub fn next_line<'a>(r: Reader<'a>) -> Reader<'a>
     ensures { result ≡ moved r.entry }
 {
+    let len = line_length(r.text, r.at);
     Reader {
         text: r.text,
-        at: behind(r.text, r.at),
+        at: r.at + len,
     }
-}
-
-// The index behind the line at this index.
-fn behind(text: &[u8], at: usize) -> usize
-    ensures { result ≡ at + line_length (drop at text.now) }
-{
-    at + line_length(text, at)
 }
 
 // One byte at this index, if the buffer reaches so far.
