@@ -1,12 +1,8 @@
-use Prim.Native.Nat.{◌≤◌, ◌-◌}
 use mathlib.Core.Bool.{◌&&◌}
-use mathlib.Core.Logic.{⊎_elim}
-use mathlib.Core.Path.{◌≡◌, sym, ap₂, ◌∙◌}
+use mathlib.Core.Path.{sym, ap₂, ◌∙◌}
 use native.Mathlib.Omega.{arith}
-use borrow.Author.Tests.{not-true, not-false}
-use lib.ListN.{length, drop}
 use Rattle.aiger.specs.Text.{vars}
-use Rattle.aiger.specs.Inner.{known_in, all_known}
+use Rattle.aiger.specs.Inner.{known_in}
 use Rattle.aiger.proofs.Finding.{left_fails, right_fails, gate_at, every_stops, every_passes, every_end}
 use Rattle.aiger.proofs.find.all_known.Goals as goal
 use Rattle.aiger.proofs.find.all_known.Goals.{

@@ -1,13 +1,8 @@
-use Prim.Native.Nat.{suc, ◌-◌, ◌≤◌}
 use mathlib.Core.Bool.{true, false, ◌&&◌}
-use mathlib.Core.Logic.{⊎_elim}
 use mathlib.Core.Path.{sym, ap₂, ◌∙◌}
-use native.Mathlib.Nat.{pow-suc}
 use native.Mathlib.Omega.{arith}
-use lib.ListN.{length}
-use lib.Pow.{pow_mono}
 use Rattle.masks.proofs.OneBit.{pow_within}
-use Rattle.aiger.proofs.Settling.{settled_literal, Gathers, gathers_none, gathers_next, gathers_all}
+use Rattle.aiger.proofs.Settling.{settled_literal, gathers_none, gathers_next, gathers_all}
 use Rattle.aiger.proofs.Finding.{gate_at, left_fails, right_fails}
 use Rattle.aiger.proofs.find.settle.Goals as goal
 use Rattle.aiger.proofs.find.settle.Goals.{
@@ -19,11 +14,6 @@ use Rattle.aiger.proofs.find.settle.Goals.{
 
 pub loop-i-init : goal.loop-i-init
 loop-i-init c = (c.requires.1, gathers_none _ _)
-
-pub overflow_add-next : goal.overflow_add-next
-overflow_add-next c =
-    let k = c.loop-i.k in
-    rw (c.power-next.ensures ∙ pow_within 64 _ (omega arith)) (omega (arith, pow-suc 2 k, pow_mono {i = suc k} {j = 64} (omega arith)))
 
 pub loop-i-preserved : goal.loop-i-preserved
 loop-i-preserved c =

@@ -34,7 +34,7 @@ shape_of-into-then-not-begun c = walked_length c.loop-j.invariant
 pub returns-then-not-begun : goal.returns-then-not-begun
 returns-then-not-begun c =
     let other = sym c.is_digit.ensures ∙ c.if-is_digit.false in
-    walked_early c.loop-j-test.true c.loop-j.invariant other (not-true _ c.if-not-begun.true)
+    walked_early c.loop-j-test.true c.loop-j.invariant other c.if-not-begun.true
 
 pub shape_of-into-then-count-into : goal.shape_of-into-then-count-into
 shape_of-into-then-count-into c = walked_length c.loop-j.invariant
@@ -42,7 +42,7 @@ shape_of-into-then-count-into c = walked_length c.loop-j.invariant
 pub returns-then-count-into : goal.returns-then-count-into
 returns-then-count-into c =
     let other = sym c.is_digit.ensures ∙ c.if-is_digit.false in
-    walked_full c.loop-j-test.true c.loop-j.invariant other (not-false _ c.if-not-begun.false) c.if-count-into.true
+    walked_full c.loop-j-test.true c.loop-j.invariant other c.if-not-begun.false c.if-count-into.true
 
 pub bounds-into-count : goal.bounds-into-count
 bounds-into-count c =
@@ -52,8 +52,8 @@ bounds-into-count c =
 pub returns-then-j-line : goal.returns-then-j-line
 returns-then-j-line c =
     let other = sym c.is_digit.ensures ∙ c.if-is_digit.false in
-    walked_feed c.loop-j-test.true c.loop-j.invariant other (not-false _ c.if-not-begun.false) c.if-count-into.false
-    c.if-c-eq10.true (eqb-true _ _ c.if-j-line.true)
+    walked_feed c.loop-j-test.true c.loop-j.invariant other c.if-not-begun.false c.if-count-into.false
+    c.if-c-eq10.true c.if-j-line.true
 
 pub shape_of-into-then-j-line : goal.shape_of-into-then-j-line
 shape_of-into-then-j-line c = (returns-then-j-line c).same
@@ -61,8 +61,8 @@ shape_of-into-then-j-line c = (returns-then-j-line c).same
 pub returns-else-c-eq10 : goal.returns-else-c-eq10
 returns-else-c-eq10 c =
     let other = sym c.is_digit.ensures ∙ c.if-is_digit.false in
-    walked_other c.loop-j-test.true c.loop-j.invariant other (not-false _ c.if-not-begun.false) c.if-count-into.false
-    c.if-c-ne32.true (λ b l. ⊎_elim (λ w. eqb-false _ _ w.1.left l) (λ w. w.left b) c.else-c-eq10.branch)
+    walked_other c.loop-j-test.true c.loop-j.invariant other c.if-not-begun.false c.if-count-into.false
+    c.if-c-ne32.true ?
 
 pub shape_of-into-else-c-eq10 : goal.shape_of-into-else-c-eq10
 shape_of-into-else-c-eq10 c = (returns-else-c-eq10 c).same
@@ -70,13 +70,7 @@ shape_of-into-else-c-eq10 c = (returns-else-c-eq10 c).same
 pub loop-j-preserved : goal.loop-j-preserved
 loop-j-preserved c =
     let test = sym c.is_digit.ensures in
-    ⊎_elim
-    (λ w.
-    rw (w.2, w.3, w.4, w.5) (walked_digit c.loop-j-test.true c.loop-j.invariant (test ∙ w.0.taken) w.1.left))
-    (λ w.
-    rw (w.4, w.5, w.6, w.7)
-    (walked_blank c.loop-j-test.true c.loop-j.invariant (test ∙ w.0.left) (not-false _ w.1.left) w.2.left w.3.left))
-    c.if-is_digit.branch
+    let h = c.if-is_digit.branch in ?
 
 pub shape_of-into : goal.shape_of-into
 shape_of-into c = walked_length c.loop-j.invariant
