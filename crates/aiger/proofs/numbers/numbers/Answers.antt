@@ -6,6 +6,12 @@ use borrow.Author.Tests.{not-true, not-false, eqb-true, eqb-false}
 use lib.ListN.{length}
 use Rattle.aiger.proofs.Numbering.{Walked, digit_least, walked_first, walked_length, walked_past, walked_digit, walked_huge, walked_early, walked_full, walked_blank, walked_feed, walked_other}
 use Rattle.aiger.proofs.numbers.numbers.Goals as goal
+use Rattle.aiger.proofs.numbers.numbers.Goals.{
+  else-c-eq10-via-then-c-eq10+else-j-line,
+  else-c-eq10-via-else-c-eq10,
+  then-is_digit+else-value-ge-LIMIT,
+  else-is_digit+else-not-begun+else-count-into+else-c-ne32,
+}
 
 pub loop-j-init : goal.loop-j-init
 loop-j-init c = walked_first _ _
@@ -62,7 +68,11 @@ pub returns-else-c-eq10 : goal.returns-else-c-eq10
 returns-else-c-eq10 c =
     let other = sym c.is_digit.ensures ∙ c.if-is_digit.false in
     walked_other c.loop-j-test.true c.loop-j.invariant other c.if-not-begun.false c.if-count-into.false
-    c.if-c-ne32.true ?
+    c.if-c-ne32.true
+    (λ b l. elim c.else-c-eq10.branch [
+      else-c-eq10-via-then-c-eq10+else-j-line w ↦ w.if-j-line.false l
+    | else-c-eq10-via-else-c-eq10 w ↦ w.if-c-eq10.false b
+    ])
 
 pub shape_of-into-else-c-eq10 : goal.shape_of-into-else-c-eq10
 shape_of-into-else-c-eq10 c = (returns-else-c-eq10 c).same
@@ -70,7 +80,14 @@ shape_of-into-else-c-eq10 c = (returns-else-c-eq10 c).same
 pub loop-j-preserved : goal.loop-j-preserved
 loop-j-preserved c =
     let test = sym c.is_digit.ensures in
-    let h = c.if-is_digit.branch in ?
+    elim c.if-is_digit.branch [
+      then-is_digit+else-value-ge-LIMIT w ↦
+        rw (w.into-is, w.count-is, w.begun-is, w.value-is)
+        (walked_digit c.loop-j-test.true c.loop-j.invariant (test ∙ w.if-is_digit.true) w.if-value-ge-LIMIT.false)
+    | else-is_digit+else-not-begun+else-count-into+else-c-ne32 w ↦
+        rw (w.into-is, w.count-is, w.begun-is, w.value-is)
+        (walked_blank c.loop-j-test.true c.loop-j.invariant (test ∙ w.if-is_digit.false) w.if-not-begun.false w.if-count-into.false w.if-c-ne32.false)
+    ]
 
 pub shape_of-into : goal.shape_of-into
 shape_of-into c = walked_length c.loop-j.invariant
