@@ -5,6 +5,7 @@ use borrow.Author.Tests.{eqb-true, eqb-false, not-true, not-false}
 use lib.ListN.{length}
 use Rattle.aiger.proofs.Rereading.{ends_within, Starting, starting_first, starting_last, starting_wrong, starting_next}
 use Rattle.aiger.proofs.again.right_starts.Goals as goal
+use Rattle.aiger.proofs.again.right_starts.Goals.{else-start-gt1-via-then-start-gt1+else-start-row, else-start-gt1-via-else-start-gt1}
 
 pub loop-right-init : goal.loop-right-init
 loop-right-init c = (c.requires, omega arith, starting_first _ _ _)
@@ -20,7 +21,7 @@ slice_bounds-numbers-end c = ends_within _ _ _ c.loop-right.invariant.0 c.line_l
 pub returns-then-start-row : goal.returns-then-start-row
 returns-then-start-row c h latches again =
     starting_wrong (c.loop-right.invariant.2 h latches again) c.loop-right.invariant.0 c.loop-right-test.true _ c.line_length-len.ensures
-    c.numbers.ensures c.if-start-gt1.true (eqb-false _ _ (not-true _ c.if-start-row.true))
+    c.numbers.ensures c.if-start-gt1.true c.if-start-row.true
 
 pub overflow_add-at-in-loop-right : goal.overflow_add-at-in-loop-right
 overflow_add-at-in-loop-right c =
@@ -35,7 +36,10 @@ loop-right-preserved c =
       λ h latches again.
           starting_next (c.loop-right.invariant.2 h latches again) c.loop-right.invariant.0 c.loop-right-test.true _
           c.line_length-len.ensures c.numbers.ensures
-          (⊎_elim (λ w. inr (eqb-true _ _ (not-false _ w.1.left))) (λ w. inl w.left) c.else-start-gt1.branch),
+          (elim c.else-start-gt1.branch [
+            else-start-gt1-via-then-start-gt1+else-start-row w ↦ inr w.if-start-row.false
+          | else-start-gt1-via-else-start-gt1 w ↦ inl w.if-start-gt1.false
+          ]),
     )
 
 pub returns : goal.returns

@@ -6,6 +6,7 @@ use lib.ListN.{length}
 use Rattle.aiger.specs.Inner.{Fits}
 use Rattle.aiger.proofs.Rereading.{ends_within, Gathering, gathering_first, gathered_all, gathered_next}
 use Rattle.aiger.proofs.again.watch.Goals as goal
+use Rattle.aiger.proofs.again.watch.Goals.{then-known, else-known}
 
 pub loop-left-init : goal.loop-left-init
 loop-left-init c =
@@ -37,7 +38,10 @@ loop-left-preserved c =
           _
           c.numbers.ensures
           _
-          (⊎_elim (λ v. rw v.0.taken (v.2 ∙ v.1.ensures)) (λ v. rw v.0.left (v.1 ∙ v.0.left)) c.if-known.branch)
+          (elim c.if-known.branch [
+            then-known w ↦ rw w.if-known.true (w.known-is ∙ w.is_known-known.ensures)
+          | else-known w ↦ rw w.if-known.false (w.known-is ∙ w.if-known.false)
+          ])
           _
           c.with_literal-clause.ensures,
     )

@@ -16,53 +16,29 @@ use Rattle.aiger.proofs.numbers.numbers.Goals.{
 pub loop-j-init : goal.loop-j-init
 loop-j-init c = walked_first _ _
 
-pub overflow_cast-value : goal.overflow_cast-value
-overflow_cast-value c = omega (arith, c.type_inv.line c.loop-j.j)
-
 pub overflow_sub-value : goal.overflow_sub-value
 overflow_sub-value c = digit_least _ (sym c.is_digit.ensures ∙ c.if-is_digit.true)
-
-pub overflow_add-value : goal.overflow_add-value
-overflow_add-value c =
-    omega (arith, c.loop-j.invariant.small, c.type_inv.line c.loop-j.j)
-
-pub shape_of-into-then-value-ge-LIMIT : goal.shape_of-into-then-value-ge-LIMIT
-shape_of-into-then-value-ge-LIMIT c = walked_length c.loop-j.invariant
 
 pub returns-then-value-ge-LIMIT : goal.returns-then-value-ge-LIMIT
 returns-then-value-ge-LIMIT c =
     let digit = sym c.is_digit.ensures ∙ c.if-is_digit.true in
     walked_huge c.loop-j-test.true c.loop-j.invariant digit c.if-value-ge-LIMIT.true
 
-pub shape_of-into-then-not-begun : goal.shape_of-into-then-not-begun
-shape_of-into-then-not-begun c = walked_length c.loop-j.invariant
-
 pub returns-then-not-begun : goal.returns-then-not-begun
 returns-then-not-begun c =
     let other = sym c.is_digit.ensures ∙ c.if-is_digit.false in
     walked_early c.loop-j-test.true c.loop-j.invariant other c.if-not-begun.true
-
-pub shape_of-into-then-count-into : goal.shape_of-into-then-count-into
-shape_of-into-then-count-into c = walked_length c.loop-j.invariant
 
 pub returns-then-count-into : goal.returns-then-count-into
 returns-then-count-into c =
     let other = sym c.is_digit.ensures ∙ c.if-is_digit.false in
     walked_full c.loop-j-test.true c.loop-j.invariant other c.if-not-begun.false c.if-count-into.true
 
-pub bounds-into-count : goal.bounds-into-count
-bounds-into-count c =
-    let w = c.loop-j.invariant in
-    omega (arith, c.if-count-into.false, walked_length w, w.fits)
-
 pub returns-then-j-line : goal.returns-then-j-line
 returns-then-j-line c =
     let other = sym c.is_digit.ensures ∙ c.if-is_digit.false in
     walked_feed c.loop-j-test.true c.loop-j.invariant other c.if-not-begun.false c.if-count-into.false
     c.if-c-eq10.true c.if-j-line.true
-
-pub shape_of-into-then-j-line : goal.shape_of-into-then-j-line
-shape_of-into-then-j-line c = (returns-then-j-line c).same
 
 pub returns-else-c-eq10 : goal.returns-else-c-eq10
 returns-else-c-eq10 c =
@@ -73,9 +49,6 @@ returns-else-c-eq10 c =
       else-c-eq10-via-then-c-eq10+else-j-line w ↦ w.if-j-line.false l
     | else-c-eq10-via-else-c-eq10 w ↦ w.if-c-eq10.false b
     ])
-
-pub shape_of-into-else-c-eq10 : goal.shape_of-into-else-c-eq10
-shape_of-into-else-c-eq10 c = (returns-else-c-eq10 c).same
 
 pub loop-j-preserved : goal.loop-j-preserved
 loop-j-preserved c =
@@ -88,9 +61,6 @@ loop-j-preserved c =
         rw (w.into-is, w.count-is, w.begun-is, w.value-is)
         (walked_blank c.loop-j-test.true c.loop-j.invariant (test ∙ w.if-is_digit.false) w.if-not-begun.false w.if-count-into.false w.if-c-ne32.false)
     ]
-
-pub shape_of-into : goal.shape_of-into
-shape_of-into c = walked_length c.loop-j.invariant
 
 pub returns : goal.returns
 returns c = walked_past c.loop-j.invariant c.loop-j-test.false
