@@ -4,10 +4,8 @@ use mathlib.Core.Logic.{⊎_elim}
 use mathlib.Core.Path.{◌≡◌, ap, ◌∙◌}
 use borrow.Author.Tests.{eq-eqb, ne_eqb}
 use Rattle.aiger.proofs.Seeing.{sees}
-use native.Mathlib.Omega.{arith}
-use Rattle.std.proofs.Common.{rules}
+use borrow.Author.Rules.{rules}
 use Rattle.aiger.proofs.again.see.Goals as goal
-use Rattle.aiger.proofs.again.see.Goals.{then-outputs, else-outputs, then-bads, else-bads}
 
 pub returns-then-h-eq0 : goal.returns-then-h-eq0
 returns-then-h-eq0 c =
@@ -16,5 +14,5 @@ returns-then-h-eq0 c =
 
 pub returns-else-h-eq0 : goal.returns-else-h-eq0
 returns-else-h-eq0 c =
-    sees _ _ _ _ _ _ _ _ c.watch-outputs.ensures c.watch-bads.ensures c.watch-constraints.ensures _ (grind arith) _
+    sees _ _ _ _ _ _ _ _ c.watch-outputs.ensures c.watch-bads.ensures c.watch-constraints.ensures _ (search rules) _
     (rw (ne_eqb _ 0 c.if-h-eq0.false))

@@ -6,7 +6,6 @@ use lib.ListN.{length}
 use Rattle.text.proofs.Laying.{writes_length}
 use Rattle.circuit.specs.Import.{mark}
 use Rattle.aiger.specs.Inner.{Fits, place_by, Constraints}
-use Rattle.aiger.specs.declared.again.Singles.{Singles}
 use Rattle.aiger.proofs.Rereading.{Putting, putting_first, putting_next, putting_last, ends_within}
 use Rattle.aiger.proofs.Writing.{clause_end}
 use borrow.Author.Rules.{rules}
@@ -14,7 +13,7 @@ use Rattle.aiger.proofs.clauses.put_constraints.Goals as goal
 
 pub loop-left-init : goal.loop-left-init
 loop-left-init c =
-    (c.requires.1, c.requires.0, search rules, search rules, refl, λ literals k. putting_first _ _ (singles _ _) literals k _ _)
+    (c.requires.1, c.requires.0, search rules, search rules, refl, λ literals k. putting_first _ _ _ literals k _ _)
 
 pub overflow_add-at : goal.overflow_add-at
 overflow_add-at c =
