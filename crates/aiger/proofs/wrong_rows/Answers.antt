@@ -12,10 +12,10 @@ use Rattle.aiger.proofs.Slices.{rest_slice, many_latches}
 use Rattle.aiger.proofs.wrong_rows.Goals as goal
 
 -- where the first two tests fail, the last decides
-last-wrong : (rows : List ℕ) (h : Header) (r : Bool) → twice (vars rows) ≡ false → not (all_known (vars rows) (take (3 * h.latches) rows)) ≡ false
+last_wrong : (rows : List ℕ) (h : Header) (r : Bool) → twice (vars rows) ≡ false → not (all_known (vars rows) (take (3 * h.latches) rows)) ≡ false
     → r ≡ all_known (vars rows) (drop (3 * (h.latches + h.inputs)) rows) → not r ≡ wrong_rows rows h
 unfolding wrong_rows
-last-wrong rows h r e f g = ap not g ∙ sym (ap₂ (λ a b. a || (b || not (all_known (vars rows) (drop (3 * (h.latches + h.inputs)) rows)))) e f)
+last_wrong rows h r e f g = ap not g ∙ sym (ap₂ (λ a b. a || (b || not (all_known (vars rows) (drop (3 * (h.latches + h.inputs)) rows)))) e f)
 
 pub slice_bounds-latches-end : goal.slice_bounds-latches-end
 slice_bounds-latches-end c = sym (many_latches _ _ c.requires)
@@ -32,6 +32,6 @@ returns-then-not-all_known c =
 pub returns-else-not-all_known : goal.returns-else-not-all_known
 returns-else-not-all_known c =
     let a = c.args in
-    last-wrong a.rows.now a.h _ (sym c.defined_twice.ensures ∙ c.if-defined_twice.false)
-    (ap not (sym c.all_known.ensures) ∙ c.if-not-all_known.false)
+    last_wrong a.rows.now a.h _ (sym c.defined_twice.ensures ∙ c.if-defined_twice.false)
+    (ap not (sym c.all_known.ensures ∙ c.if-not-all_known.false))
     (c.all_known-else-not-all_known.ensures ∙ ap (all_known (vars a.rows.now)) (rest_slice (3 * (a.h.latches + a.h.inputs)) a.rows.now))
