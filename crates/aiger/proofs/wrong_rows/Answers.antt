@@ -8,7 +8,7 @@ use Rattle.circuit.specs.Refusals.{twice}
 use Rattle.aiger.specs.Text.{vars}
 use Rattle.aiger.specs.Inner.{all_known, wrong_rows}
 use Rattle.aiger.specs.declared.read.Header.{Header}
-use Rattle.aiger.proofs.Slices.{rest_slice, many_latches}
+use Rattle.aiger.proofs.Slices.{rest_slice}
 use Rattle.aiger.proofs.wrong_rows.Goals as goal
 
 -- where the first two tests fail, the last decides
@@ -16,9 +16,6 @@ last_wrong : (rows : List ℕ) (h : Header) (r : Bool) → twice (vars rows) ≡
     → r ≡ all_known (vars rows) (drop (3 * (h.latches + h.inputs)) rows) → not r ≡ wrong_rows rows h
 unfolding wrong_rows
 last_wrong rows h r e f g = ap not g ∙ sym (ap₂ (λ a b. a || (b || not (all_known (vars rows) (drop (3 * (h.latches + h.inputs)) rows)))) e f)
-
-pub slice_bounds-latches-end : goal.slice_bounds-latches-end
-slice_bounds-latches-end c = sym (many_latches _ _ c.requires)
 
 pub returns-then-defined_twice : goal.returns-then-defined_twice
 unfolding wrong_rows

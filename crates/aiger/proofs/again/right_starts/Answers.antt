@@ -1,9 +1,6 @@
-use Prim.Native.Nat.{◌-◌, ◌≤◌}
-use mathlib.Core.Logic.{inl, inr, ⊎_elim}
+use mathlib.Core.Logic.{inl, inr}
 use native.Mathlib.Omega.{arith}
-use borrow.Author.Tests.{eqb-true, eqb-false, not-true, not-false}
-use lib.ListN.{length}
-use Rattle.aiger.proofs.Rereading.{ends_within, Starting, starting_first, starting_last, starting_wrong, starting_next}
+use Rattle.aiger.proofs.Rereading.{ends_within, starting_first, starting_last, starting_wrong, starting_next}
 use Rattle.aiger.proofs.again.right_starts.Goals as goal
 use Rattle.aiger.proofs.again.right_starts.Goals.{else-start-gt1-via-then-start-gt1+else-start-row, else-start-gt1-via-else-start-gt1}
 
@@ -22,11 +19,6 @@ pub returns-then-start-row : goal.returns-then-start-row
 returns-then-start-row c h latches again =
     starting_wrong (c.loop-right.invariant.2 h latches again) c.loop-right.invariant.0 c.loop-right-test.true _ c.line_length-len.ensures
     c.numbers.ensures c.if-start-gt1.true c.if-start-row.true
-
-pub overflow_add-at-in-loop-right : goal.overflow_add-at-in-loop-right
-overflow_add-at-in-loop-right c =
-    let text = c.args.text.now in
-    omega (arith, ends_within text c.loop-right.at c.line_length-len.result c.loop-right.invariant.0 c.line_length-len.ensures)
 
 pub loop-right-preserved : goal.loop-right-preserved
 loop-right-preserved c =

@@ -1,7 +1,4 @@
 -- `again::see` meets its contract: three runs, each watched from where the one before it ends. Assumes nothing.
-use mathlib.Core.Bool.{Bool, ◌&&◌, and_assoc}
-use mathlib.Core.Logic.{⊎_elim}
-use mathlib.Core.Path.{◌≡◌, ap, ◌∙◌}
 use borrow.Author.Tests.{eq-eqb, ne_eqb}
 use Rattle.aiger.proofs.Seeing.{sees}
 use borrow.Author.Rules.{rules}

@@ -1,10 +1,6 @@
-use Prim.Native.Nat.{◌≤◌}
-use mathlib.Core.Logic.{⊎_elim}
 use mathlib.Core.Path.{◌∙◌}
 use native.Mathlib.Omega.{arith}
-use lib.ListN.{length}
-use Rattle.aiger.specs.Inner.{Fits}
-use Rattle.aiger.proofs.Rereading.{ends_within, Gathering, gathering_first, gathered_all, gathered_next}
+use Rattle.aiger.proofs.Rereading.{ends_within, gathering_first, gathered_all, gathered_next}
 use Rattle.aiger.proofs.again.watch.Goals as goal
 use Rattle.aiger.proofs.again.watch.Goals.{then-known, else-known}
 
@@ -19,11 +15,6 @@ overflow_add-at c =
 
 pub slice_bounds-numbers-end : goal.slice_bounds-numbers-end
 slice_bounds-numbers-end c = ends_within _ _ _ c.loop-left.invariant.0 c.line_length-len.ensures
-
-pub overflow_add-at-in-loop-left : goal.overflow_add-at-in-loop-left
-overflow_add-at-in-loop-left c =
-    let text = c.args.text.now in
-    omega (arith, ends_within text c.loop-left.at c.line_length-len.result c.loop-left.invariant.0 c.line_length-len.ensures)
 
 pub loop-left-preserved : goal.loop-left-preserved
 loop-left-preserved c =

@@ -1,18 +1,12 @@
-use Prim.Native.Nat.{◌+◌, ◌-◌, ◌≤◌}
-use mathlib.Core.Logic.{⊎_elim}
 use mathlib.Core.Path.{◌≡◌}
 use native.Mathlib.Omega.{arith}
-use lib.ListN.{length, drop}
+use lib.ListN.{drop}
 use Rattle.circuit.proofs.Sentences.{fixed}
 use Rattle.aiger.specs.Text.{latches_of}
 use Rattle.aiger.proofs.Threes.{threes_end}
 use Rattle.aiger.proofs.Entering.{fixed_more, fixed_same, starts_many}
-use borrow.Author.Rules.{rules}
 use Rattle.aiger.proofs.clauses.fixed_starts.Goals as goal
 use Rattle.aiger.proofs.clauses.fixed_starts.Goals.{then-latches-i-le1, else-latches-i-le1}
-
-pub loop-i-init : goal.loop-i-init
-loop-i-init c = (search rules, search rules, search rules)
 
 pub loop-i-preserved : goal.loop-i-preserved
 loop-i-preserved c =

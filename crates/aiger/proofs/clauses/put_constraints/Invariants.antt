@@ -2,15 +2,11 @@
 -- read so far were written, four masks each, and the rest is read from the place now. The measure is how many lines are left. Assumes nothing.
 use Prim.Native.Nat.{ℕ, ◌+◌, ◌-◌, ◌*◌, ◌≤◌}
 use mathlib.Core.List.{List}
-use mathlib.Core.Path.{◌≡◌, refl, ap, ◌∙◌}
-use native.Mathlib.Omega.{arith}
+use mathlib.Core.Path.{◌≡◌}
 use lib.ListN.{length}
-use Rattle.text.proofs.Laying.{writes_length}
-use Rattle.circuit.specs.Import.{mark}
 use Rattle.aiger.specs.Inner.{Fits, place_by, Constraints}
 use Rattle.aiger.specs.declared.again.Singles.{Singles}
-use Rattle.aiger.proofs.Rereading.{Putting, putting_first, putting_next, putting_last, ends_within}
-use Rattle.aiger.proofs.Writing.{clause_end}
+use Rattle.aiger.proofs.Rereading.{Putting}
 use Rattle.aiger.proofs.clauses.put_constraints.Given as goal
 
 abbrev singles : ℕ → ℕ → Singles

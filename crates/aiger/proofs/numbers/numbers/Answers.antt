@@ -1,10 +1,5 @@
-use Prim.Native.Nat.{◌-◌}
-use mathlib.Core.Logic.{⊎_elim}
 use mathlib.Core.Path.{sym, ◌∙◌}
-use native.Mathlib.Omega.{arith}
-use borrow.Author.Tests.{not-true, not-false, eqb-true, eqb-false}
-use lib.ListN.{length}
-use Rattle.aiger.proofs.Numbering.{Walked, digit_least, walked_first, walked_length, walked_past, walked_digit, walked_huge, walked_early, walked_full, walked_blank, walked_feed, walked_other}
+use Rattle.aiger.proofs.Numbering.{digit_least, walked_first, walked_past, walked_digit, walked_huge, walked_early, walked_full, walked_blank, walked_feed, walked_other}
 use Rattle.aiger.proofs.numbers.numbers.Goals as goal
 use Rattle.aiger.proofs.numbers.numbers.Goals.{
   else-c-eq10-via-then-c-eq10+else-j-line,
