@@ -21,18 +21,17 @@ returns-then-start-row c h latches again =
     c.numbers.ensures c.if-start-gt1.true c.if-start-row.true
 
 pub loop-right-preserved : goal.loop-right-preserved
-loop-right-preserved c =
-    (
-      ends_within _ _ _ c.loop-right.invariant.0 c.line_length-len.ensures,
-      omega (arith, c.loop-right-test.true),
-      λ h latches again.
-          starting_next (c.loop-right.invariant.2 h latches again) c.loop-right.invariant.0 c.loop-right-test.true _
-          c.line_length-len.ensures c.numbers.ensures
-          (elim c.else-start-gt1.branch [
-            else-start-gt1-via-then-start-gt1+else-start-row w ↦ inr w.if-start-row.false
-          | else-start-gt1-via-else-start-gt1 w ↦ inl w.if-start-gt1.false
-          ]),
-    )
+loop-right-preserved c = (
+  ends_within _ _ _ c.loop-right.invariant.0 c.line_length-len.ensures,
+  omega (arith, c.loop-right-test.true),
+  λ h latches again.
+      starting_next (c.loop-right.invariant.2 h latches again) c.loop-right.invariant.0 c.loop-right-test.true _
+      c.line_length-len.ensures c.numbers.ensures
+      (elim c.else-start-gt1.branch [
+        | else-start-gt1-via-then-start-gt1+else-start-row w ↦ inr w.if-start-row.false
+        | else-start-gt1-via-else-start-gt1 w ↦ inl w.if-start-gt1.false
+      ]),
+)
 
 pub returns : goal.returns
 returns c h latches again = starting_last (c.loop-right.invariant.2 h latches again) c.loop-right-test.false

@@ -17,25 +17,24 @@ pub slice_bounds-numbers-end : goal.slice_bounds-numbers-end
 slice_bounds-numbers-end c = ends_within _ _ _ c.loop-left.invariant.0 c.line_length-len.ensures
 
 pub loop-left-preserved : goal.loop-left-preserved
-loop-left-preserved c =
-    (
-      ends_within _ _ _ c.loop-left.invariant.0 c.line_length-len.ensures,
-      c.loop-left.invariant.1,
-      λ h singles others again.
-          gathered_next _ _ _ (c.loop-left.invariant.2 h singles others again) c.loop-left-test.true c.loop-left.invariant.0
-          _
-          c.line_length-len.ensures
-          _
-          _
-          c.numbers.ensures
-          _
-          (elim c.if-known.branch [
-            then-known w ↦ rw w.if-known.true (w.known-is ∙ w.is_known-known.ensures)
-          | else-known w ↦ rw w.if-known.false (w.known-is ∙ w.if-known.false)
-          ])
-          _
-          c.with_literal-clause.ensures,
-    )
+loop-left-preserved c = (
+  ends_within _ _ _ c.loop-left.invariant.0 c.line_length-len.ensures,
+  c.loop-left.invariant.1,
+  λ h singles others again.
+      gathered_next _ _ _ (c.loop-left.invariant.2 h singles others again) c.loop-left-test.true c.loop-left.invariant.0
+      _
+      c.line_length-len.ensures
+      _
+      _
+      c.numbers.ensures
+      _
+      (elim c.if-known.branch [
+        | then-known w ↦ rw w.if-known.true (w.known-is ∙ w.is_known-known.ensures)
+        | else-known w ↦ rw w.if-known.false (w.known-is ∙ w.if-known.false)
+      ])
+      _
+      c.with_literal-clause.ensures,
+)
 
 pub returns : goal.returns
 returns c =

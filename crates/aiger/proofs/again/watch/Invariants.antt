@@ -7,7 +7,8 @@ use Rattle.aiger.proofs.Rereading.{Gathering}
 use Rattle.aiger.proofs.again.watch.Given as goal
 
 abbrev pub invariant-loop-left : goal.invariant-loop-left
-invariant-loop-left l = (l.at ≤ length l.text) × Fits l.rows l.latches × Gathering l.text l.rows l.latches l.initial.at l.initial.left l.at l.left l.known l.clause
+invariant-loop-left l = (l.at ≤ length l.text) × Fits l.rows l.latches
+    × Gathering l.text l.rows l.latches l.initial.at l.initial.left l.at l.left l.known l.clause
 
 abbrev pub decreases-loop-left : goal.decreases-loop-left
 decreases-loop-left l = l.left

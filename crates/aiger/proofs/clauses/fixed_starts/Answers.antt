@@ -14,8 +14,8 @@ loop-i-preserved c =
     let latches = c.args.latches.now in
     let row = c.loop-i-test.true in
     elim c.if-latches-i-le1.branch [
-      then-latches-i-le1 w ↦ (omega arith, omega arith, omega (arith, l.invariant.2, fixed_more latches l.i row w.if-latches-i-le1.true))
-    | else-latches-i-le1 w ↦ (omega arith, omega arith, omega (arith, l.invariant.2, fixed_same latches l.i row w.if-latches-i-le1.false))
+      | then-latches-i-le1 w ↦ (omega arith, omega arith, omega (arith, l.invariant.2, fixed_more latches l.i row w.if-latches-i-le1.true))
+      | else-latches-i-le1 w ↦ (omega arith, omega arith, omega (arith, l.invariant.2, fixed_same latches l.i row w.if-latches-i-le1.false))
     ]
 
 pub returns : goal.returns

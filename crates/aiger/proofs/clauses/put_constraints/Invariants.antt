@@ -13,8 +13,8 @@ abbrev singles : ℕ → ℕ → Singles
 singles at count = record { at = at; count = count }
 
 abbrev pub invariant-loop-left : goal.invariant-loop-left
-invariant-loop-left l = (l.at ≤ length l.text) × Fits l.rows l.latches × (l.left ≤ l.initial.left) × (l.end ≡ l.from + 4 * (l.initial.left - l.left)) × (length l.store ≡ length l.initial.store)
-    × ((literals : List ℕ) (k : Constraints l.text (singles l.initial.at l.initial.left) literals)
+invariant-loop-left l = (l.at ≤ length l.text) × Fits l.rows l.latches × (l.left ≤ l.initial.left) × (l.end ≡ l.from + 4 * (l.initial.left - l.left))
+    × (length l.store ≡ length l.initial.store) × ((literals : List ℕ) (k : Constraints l.text (singles l.initial.at l.initial.left) literals)
     → Putting l.text (place_by l.rows l.latches) k.header literals l.at l.left l.from l.initial.store l.end l.store)
 
 abbrev pub decreases-loop-left : goal.decreases-loop-left

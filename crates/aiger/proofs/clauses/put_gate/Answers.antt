@@ -16,10 +16,10 @@ put_clause-requires c =
 
 pub returns : goal.returns
 returns c =
-    let out-made = c.with_literal-not_out.ensures ∙ ap (mark _ _) c.no_literal.ensures in
+    let out_made = c.with_literal-not_out.ensures ∙ ap (mark _ _) c.no_literal.ensures in
     rw (← gate_masks_lem _ _ _ _ _ _ _
-    (c.with_literal-m.ensures ∙ ap (mark _ _) out-made)
-    (c.with_literal-m-2.ensures ∙ ap (mark _ _) out-made)
+    (c.with_literal-m.ensures ∙ ap (mark _ _) out_made)
+    (c.with_literal-m-2.ensures ∙ ap (mark _ _) out_made)
     (c.with_literal-m-5.ensures
     ∙ ap (mark _ _) (c.with_literal-m-4.ensures
     ∙ ap (mark _ _) (c.with_literal-m-3.ensures ∙ ap (mark _ _) c.no_literal-2.ensures))))

@@ -22,20 +22,20 @@ loop-i-preserved c =
     let gate = gate_at args.gates.now c.loop-i.i in (
       c.loop-i.invariant.0,
       elim c.if-is_settled.branch [
-        then-is_settled+then-is_settled-2 w ↦
-          gathers_next _ _ c.loop-i.invariant.1 c.loop-i-test.true true
-          (ap₂ ◌&&◌ (sym c.is_settled.ensures ∙ w.if-is_settled.true) (sym w.is_settled-then-is_settled.ensures ∙ w.if-is_settled-2.true))
-          _
-          (w.next-is ∙ rw (w.power-next.ensures ∙ pow_within 64 _ (omega arith)))
-      | else-is_settled w ↦
-          gathers_next _ _ c.loop-i.invariant.1 c.loop-i-test.true false
-          (elim w.else-is_settled.branch [
-            else-is_settled-via-then-is_settled+else-is_settled-2 v ↦
-              right_fails literal gate (sym v.is_settled-then-is_settled.ensures ∙ v.if-is_settled-2.false)
-          | else-is_settled-via-else-is_settled v ↦ left_fails literal gate (sym c.is_settled.ensures ∙ v.if-is_settled.false)
-          ])
-          _
-          (w.next-is ∙ omega arith)
+        | then-is_settled+then-is_settled-2 w ↦
+            gathers_next _ _ c.loop-i.invariant.1 c.loop-i-test.true true
+            (ap₂ ◌&&◌ (sym c.is_settled.ensures ∙ w.if-is_settled.true) (sym w.is_settled-then-is_settled.ensures ∙ w.if-is_settled-2.true))
+            _
+            (w.next-is ∙ rw (w.power-next.ensures ∙ pow_within 64 _ (omega arith)))
+        | else-is_settled w ↦
+            gathers_next _ _ c.loop-i.invariant.1 c.loop-i-test.true false
+            (elim w.else-is_settled.branch [
+              | else-is_settled-via-then-is_settled+else-is_settled-2 v ↦
+                  right_fails literal gate (sym v.is_settled-then-is_settled.ensures ∙ v.if-is_settled-2.false)
+              | else-is_settled-via-else-is_settled v ↦ left_fails literal gate (sym c.is_settled.ensures ∙ v.if-is_settled.false)
+            ])
+            _
+            (w.next-is ∙ omega arith)
       ],
     )
 

@@ -41,20 +41,20 @@ returns-else-c-eq10 c =
     walked_other c.loop-j-test.true c.loop-j.invariant other c.if-not-begun.false c.if-count-into.false
     c.if-c-ne32.true
     (λ b l. elim c.else-c-eq10.branch [
-      else-c-eq10-via-then-c-eq10+else-j-line w ↦ w.if-j-line.false l
-    | else-c-eq10-via-else-c-eq10 w ↦ w.if-c-eq10.false b
+      | else-c-eq10-via-then-c-eq10+else-j-line w ↦ w.if-j-line.false l
+      | else-c-eq10-via-else-c-eq10 w ↦ w.if-c-eq10.false b
     ])
 
 pub loop-j-preserved : goal.loop-j-preserved
 loop-j-preserved c =
     let test = sym c.is_digit.ensures in
     elim c.if-is_digit.branch [
-      then-is_digit+else-value-ge-LIMIT w ↦
-        rw (w.into-is, w.count-is, w.begun-is, w.value-is)
-        (walked_digit c.loop-j-test.true c.loop-j.invariant (test ∙ w.if-is_digit.true) w.if-value-ge-LIMIT.false)
-    | else-is_digit+else-not-begun+else-count-into+else-c-ne32 w ↦
-        rw (w.into-is, w.count-is, w.begun-is, w.value-is)
-        (walked_blank c.loop-j-test.true c.loop-j.invariant (test ∙ w.if-is_digit.false) w.if-not-begun.false w.if-count-into.false w.if-c-ne32.false)
+      | then-is_digit+else-value-ge-LIMIT w ↦
+          rw (w.into-is, w.count-is, w.begun-is, w.value-is)
+          (walked_digit c.loop-j-test.true c.loop-j.invariant (test ∙ w.if-is_digit.true) w.if-value-ge-LIMIT.false)
+      | else-is_digit+else-not-begun+else-count-into+else-c-ne32 w ↦
+          rw (w.into-is, w.count-is, w.begun-is, w.value-is)
+          (walked_blank c.loop-j-test.true c.loop-j.invariant (test ∙ w.if-is_digit.false) w.if-not-begun.false w.if-count-into.false w.if-c-ne32.false)
     ]
 
 pub returns : goal.returns
