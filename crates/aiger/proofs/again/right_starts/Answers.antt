@@ -1,6 +1,7 @@
 use mathlib.Core.Logic.{inl, inr}
 use native.Mathlib.Omega.{arith}
 use Rattle.aiger.proofs.Rereading.{ends_within, starting_first, starting_last, starting_wrong, starting_next}
+use borrow.Author.Rules.{rules}
 use Rattle.aiger.proofs.again.right_starts.Goals as goal
 use Rattle.aiger.proofs.again.right_starts.Goals.{else-start-gt1-via-then-start-gt1+else-start-row, else-start-gt1-via-else-start-gt1}
 
@@ -27,10 +28,7 @@ loop-right-preserved c = (
   λ h latches again.
       starting_next (c.loop-right.invariant.2 h latches again) c.loop-right.invariant.0 c.loop-right-test.true _
       c.line_length-len.ensures c.numbers.ensures
-      (elim c.else-start-gt1.branch [
-        | else-start-gt1-via-then-start-gt1+else-start-row w ↦ inr w.if-start-row.false
-        | else-start-gt1-via-else-start-gt1 w ↦ inl w.if-start-gt1.false
-      ]),
+      (search rules),
 )
 
 pub returns : goal.returns

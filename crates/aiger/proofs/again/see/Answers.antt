@@ -7,9 +7,9 @@ use Rattle.aiger.proofs.again.see.Goals as goal
 pub returns-then-h-eq0 : goal.returns-then-h-eq0
 returns-then-h-eq0 c =
     sees _ _ _ _ _ _ _ _ c.watch-outputs.ensures c.watch-bads.ensures c.watch-constraints.ensures _ (search rules) _
-    (rw (eq-eqb _ 0 c.if-h-eq0.true))
+    (search rules)
 
 pub returns-else-h-eq0 : goal.returns-else-h-eq0
 returns-else-h-eq0 c =
     sees _ _ _ _ _ _ _ _ c.watch-outputs.ensures c.watch-bads.ensures c.watch-constraints.ensures _ (search rules) _
-    (rw (ne_eqb _ 0 c.if-h-eq0.false))
+    (search rules)

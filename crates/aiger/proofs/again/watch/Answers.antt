@@ -1,6 +1,7 @@
 use mathlib.Core.Path.{◌∙◌}
 use native.Mathlib.Omega.{arith}
 use Rattle.aiger.proofs.Rereading.{ends_within, gathering_first, gathered_all, gathered_next}
+use borrow.Author.Rules.{rules}
 use Rattle.aiger.proofs.again.watch.Goals as goal
 use Rattle.aiger.proofs.again.watch.Goals.{then-known, else-known}
 
@@ -28,10 +29,7 @@ loop-left-preserved c = (
       _
       c.numbers.ensures
       _
-      (elim c.if-known.branch [
-        | then-known w ↦ rw w.if-known.true (w.known-is ∙ w.is_known-known.ensures)
-        | else-known w ↦ rw w.if-known.false (w.known-is ∙ w.if-known.false)
-      ])
+      (search rules)
       _
       c.with_literal-clause.ensures,
 )
