@@ -1,7 +1,5 @@
 -- `aiger::header_refusal` meets its contract: the tests are made in their order, and each return knows that those before it were false. Assumes
 -- nothing.
-use Prim.Native.Nat.{◌+◌}
-use borrow.Author.Tests.{lt-ltb, le-ltb, eq-eqb, ne_eqb}
 use Rattle.aiger.specs.Inner.{header_refusal}
 use borrow.Author.Rules.{rules}
 use Rattle.aiger.proofs.header_refusal.Goals as goal

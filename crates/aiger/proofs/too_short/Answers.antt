@@ -1,7 +1,5 @@
 -- `aiger::too_short` meets its contract: the definition's three tests, in their order. Assumes nothing.
-use Prim.Native.Nat.{◌+◌, ◌*◌}
-use borrow.Author.Tests.{lt-ltb, le-ltb}
-use Rattle.aiger.specs.Inner.{shared_count, short}
+use Rattle.aiger.specs.Inner.{short}
 use borrow.Author.Rules.{rules}
 use Rattle.aiger.proofs.too_short.Goals as goal
 

@@ -1,4 +1,3 @@
-use mathlib.Core.Logic.{inl, inr}
 use native.Mathlib.Omega.{arith}
 use Rattle.aiger.proofs.Rereading.{ends_within, starting_first, starting_last, starting_wrong, starting_next}
 use borrow.Author.Rules.{rules}

@@ -1,5 +1,4 @@
 -- `again::see` meets its contract: three runs, each watched from where the one before it ends. Assumes nothing.
-use borrow.Author.Tests.{eq-eqb, ne_eqb}
 use Rattle.aiger.proofs.Seeing.{sees}
 use borrow.Author.Rules.{rules}
 use Rattle.aiger.proofs.again.see.Goals as goal

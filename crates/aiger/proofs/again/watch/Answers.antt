@@ -1,4 +1,3 @@
-use mathlib.Core.Path.{◌∙◌}
 use native.Mathlib.Omega.{arith}
 use Rattle.aiger.proofs.Rereading.{ends_within, gathering_first, gathered_all, gathered_next}
 use borrow.Author.Rules.{rules}

@@ -1,5 +1,5 @@
 -- `aiger::is_known` meets its contract: a variable has a row if its index is below their number. Assumes nothing.
-use borrow.Author.Tests.{eq-eqb, ne_eqb}
+use borrow.Author.Tests.{ne_eqb}
 use Rattle.aiger.specs.Inner.{known_in}
 use Rattle.aiger.proofs.Threes.{listed_rows}
 use borrow.Author.Rules.{rules}

@@ -1,5 +1,4 @@
 -- `numbers::is_digit` meets its contract: it compares as the definition does. Assumes nothing.
-use borrow.Author.Tests.{le-leb, lt-leb}
 use Rattle.aiger.specs.Numbers.{is_digit}
 use borrow.Author.Rules.{rules}
 use Rattle.aiger.proofs.numbers.is_digit.Goals as goal

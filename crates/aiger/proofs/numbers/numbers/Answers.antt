@@ -1,5 +1,6 @@
 use mathlib.Core.Path.{sym, ◌∙◌}
 use Rattle.aiger.proofs.Numbering.{digit_least, walked_first, walked_past, walked_digit, walked_huge, walked_early, walked_full, walked_blank, walked_feed, walked_other}
+use borrow.Author.Rules.{rules}
 use Rattle.aiger.proofs.numbers.numbers.Goals as goal
 use Rattle.aiger.proofs.numbers.numbers.Goals.{
   else-c-eq10-via-then-c-eq10+else-j-line,
@@ -40,10 +41,7 @@ returns-else-c-eq10 c =
     let other = sym c.is_digit.ensures ∙ c.if-is_digit.false in
     walked_other c.loop-j-test.true c.loop-j.invariant other c.if-not-begun.false c.if-count-into.false
     c.if-c-ne32.true
-    (λ b l. elim c.else-c-eq10.branch [
-      | else-c-eq10-via-then-c-eq10+else-j-line w ↦ w.if-j-line.false l
-      | else-c-eq10-via-else-c-eq10 w ↦ w.if-c-eq10.false b
-    ])
+    (search rules)
 
 pub loop-j-preserved : goal.loop-j-preserved
 loop-j-preserved c =
