@@ -14,7 +14,7 @@ use Rattle.base.proofs.Refusals.{else_none, if_none}
 use Rattle.masks.proofs.Somewhere.{or_fails}
 use Rattle.stores.specs.Lists.{Lists}
 use Rattle.circuit.specs.Circuit.{Circuit, Latch, any}
-use Rattle.circuit.specs.Refusals.{wires, wrong_start, right_starts, circuit_refusal}
+use Rattle.circuit.specs.Refusals.{wrong_start, right_starts, circuit_refusal}
 use Rattle.circuit.specs.Import.{import_refusal}
 use Rattle.aiger.specs.Text.{firsts, latches_of, circuit_of}
 use Rattle.aiger.specs.Inner.{Limits, Counted, too_few, header_refusal}

@@ -77,8 +77,8 @@ module _ {text : List ℕ} {f : Form} {line : ℕ} {others : List (List ℕ)} {a
       let found = row_found f bytes most more o.first n in
       record {
         later = o.later;
-        same = o.all ∙ ap (λ (x : List ℕ). x ++ o.later) found.0;
-        even = λ d. ap (λ (x : List ℕ). get_or x 0 0 % 2) (sym found.0) ∙ found.1 d;
+        same = rw found.0 at o.all;
+        even = λ d. rw found.0 at (found.1 d);
         still = record { from = suc l.from; says = o.follow };
       }
 

@@ -1,11 +1,8 @@
 -- `again::right_starts` meets its contract. The loop's invariant: of whatever latches are read from the first place so many are right, and the rest is
 -- read from the place now. The measure is how many lines are left. Assumes nothing.
 use Prim.Native.Nat.{◌-◌, ◌≤◌}
-use mathlib.Core.Logic.{inl, inr, ⊎_elim}
-use native.Mathlib.Omega.{arith}
-use borrow.Author.Tests.{eqb-true, eqb-false, not-true, not-false}
 use lib.ListN.{length}
-use Rattle.aiger.proofs.Rereading.{ends_within, Starting, starting_first, starting_last, starting_wrong, starting_next}
+use Rattle.aiger.proofs.Rereading.{Starting}
 use Rattle.aiger.proofs.again.right_starts.Given as goal
 
 abbrev pub invariant-loop-right : goal.invariant-loop-right

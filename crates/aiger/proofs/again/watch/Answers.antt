@@ -1,11 +1,8 @@
-use Prim.Native.Nat.{◌≤◌}
-use mathlib.Core.Logic.{⊎_elim}
-use mathlib.Core.Path.{◌∙◌}
 use native.Mathlib.Omega.{arith}
-use lib.ListN.{length}
-use Rattle.aiger.specs.Inner.{Fits}
-use Rattle.aiger.proofs.Rereading.{ends_within, Gathering, gathering_first, gathered_all, gathered_next}
+use Rattle.aiger.proofs.Rereading.{ends_within, gathering_first, gathered_all, gathered_next}
+use borrow.Author.Rules.{rules}
 use Rattle.aiger.proofs.again.watch.Goals as goal
+use Rattle.aiger.proofs.again.watch.Goals.{then-known, else-known}
 
 pub loop-left-init : goal.loop-left-init
 loop-left-init c =
@@ -19,28 +16,22 @@ overflow_add-at c =
 pub slice_bounds-numbers-end : goal.slice_bounds-numbers-end
 slice_bounds-numbers-end c = ends_within _ _ _ c.loop-left.invariant.0 c.line_length-len.ensures
 
-pub overflow_add-at-in-loop-left : goal.overflow_add-at-in-loop-left
-overflow_add-at-in-loop-left c =
-    let text = c.args.text.now in
-    omega (arith, ends_within text c.loop-left.at c.line_length-len.result c.loop-left.invariant.0 c.line_length-len.ensures)
-
 pub loop-left-preserved : goal.loop-left-preserved
-loop-left-preserved c =
-    (
-      ends_within _ _ _ c.loop-left.invariant.0 c.line_length-len.ensures,
-      c.loop-left.invariant.1,
-      λ h singles others again.
-          gathered_next _ _ _ (c.loop-left.invariant.2 h singles others again) c.loop-left-test.true c.loop-left.invariant.0
-          _
-          c.line_length-len.ensures
-          _
-          _
-          c.numbers.ensures
-          _
-          (⊎_elim (λ v. rw v.0.taken (v.2 ∙ v.1.ensures)) (λ v. rw v.0.left (v.1 ∙ v.0.left)) c.if-known.branch)
-          _
-          c.with_literal-clause.ensures,
-    )
+loop-left-preserved c = (
+  ends_within _ _ _ c.loop-left.invariant.0 c.line_length-len.ensures,
+  c.loop-left.invariant.1,
+  λ h singles others again.
+      gathered_next _ _ _ (c.loop-left.invariant.2 h singles others again) c.loop-left-test.true c.loop-left.invariant.0
+      _
+      c.line_length-len.ensures
+      _
+      _
+      c.numbers.ensures
+      _
+      (search rules)
+      _
+      c.with_literal-clause.ensures,
+)
 
 pub returns : goal.returns
 returns c =

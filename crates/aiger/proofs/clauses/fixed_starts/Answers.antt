@@ -1,27 +1,22 @@
-use Prim.Native.Nat.{◌+◌, ◌-◌, ◌≤◌}
-use mathlib.Core.Logic.{⊎_elim}
 use mathlib.Core.Path.{◌≡◌}
 use native.Mathlib.Omega.{arith}
-use lib.ListN.{length, drop}
+use lib.ListN.{drop}
 use Rattle.circuit.proofs.Sentences.{fixed}
 use Rattle.aiger.specs.Text.{latches_of}
 use Rattle.aiger.proofs.Threes.{threes_end}
 use Rattle.aiger.proofs.Entering.{fixed_more, fixed_same, starts_many}
-use borrow.Author.Rules.{rules}
 use Rattle.aiger.proofs.clauses.fixed_starts.Goals as goal
-
-pub loop-i-init : goal.loop-i-init
-loop-i-init c = (search rules, search rules, search rules)
+use Rattle.aiger.proofs.clauses.fixed_starts.Goals.{then-latches-i-le1, else-latches-i-le1}
 
 pub loop-i-preserved : goal.loop-i-preserved
 loop-i-preserved c =
     let l = c.loop-i in
     let latches = c.args.latches.now in
     let row = c.loop-i-test.true in
-    ⊎_elim
-    (λ v. (search rules, omega arith, omega (arith, l.invariant.2, fixed_more latches l.i row v.0.taken)))
-    (λ v. (search rules, omega arith, omega (arith, l.invariant.2, fixed_same latches l.i row v.0.left)))
-    c.if-latches-i-le1.branch
+    elim c.if-latches-i-le1.branch [
+      | then-latches-i-le1 w ↦ (omega arith, omega arith, omega (arith, l.invariant.2, fixed_more latches l.i row w.if-latches-i-le1.true))
+      | else-latches-i-le1 w ↦ (omega arith, omega arith, omega (arith, l.invariant.2, fixed_same latches l.i row w.if-latches-i-le1.false))
+    ]
 
 pub returns : goal.returns
 unfolding fixed

@@ -1,14 +1,10 @@
 -- `aiger::fixed_starts` meets its contract. The loop's invariant: the latches counted and those among the rest are all that have a fixed start value.
 -- The measure is what is left of the rows. Assumes nothing.
 use Prim.Native.Nat.{◌+◌, ◌-◌, ◌≤◌}
-use mathlib.Core.Logic.{⊎_elim}
 use mathlib.Core.Path.{◌≡◌}
-use native.Mathlib.Omega.{arith}
 use lib.ListN.{length, drop}
 use Rattle.circuit.proofs.Sentences.{fixed}
 use Rattle.aiger.specs.Text.{latches_of}
-use Rattle.aiger.proofs.Threes.{threes_end}
-use Rattle.aiger.proofs.Entering.{fixed_more, fixed_same, starts_many}
 use Rattle.aiger.proofs.clauses.fixed_starts.Given as goal
 
 abbrev pub invariant-loop-i : goal.invariant-loop-i

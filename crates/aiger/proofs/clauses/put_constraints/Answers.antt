@@ -1,20 +1,15 @@
-use Prim.Native.Nat.{ℕ, ◌+◌, ◌-◌, ◌*◌, ◌≤◌}
-use mathlib.Core.List.{List}
-use mathlib.Core.Path.{◌≡◌, refl, ap, ◌∙◌}
+use mathlib.Core.Path.{refl, ap, ◌∙◌}
 use native.Mathlib.Omega.{arith}
-use lib.ListN.{length}
 use Rattle.text.proofs.Laying.{writes_length}
 use Rattle.circuit.specs.Import.{mark}
-use Rattle.aiger.specs.Inner.{Fits, place_by, Constraints}
-use Rattle.aiger.specs.declared.again.Singles.{Singles}
-use Rattle.aiger.proofs.Rereading.{Putting, putting_first, putting_next, putting_last, ends_within}
+use Rattle.aiger.proofs.Rereading.{putting_first, putting_next, putting_last, ends_within}
 use Rattle.aiger.proofs.Writing.{clause_end}
 use borrow.Author.Rules.{rules}
 use Rattle.aiger.proofs.clauses.put_constraints.Goals as goal
 
 pub loop-left-init : goal.loop-left-init
 loop-left-init c =
-    (c.requires.1, c.requires.0, search rules, search rules, refl, λ literals k. putting_first _ _ (singles _ _) literals k _ _)
+    (c.requires.1, c.requires.0, search rules, search rules, refl, λ literals k. putting_first _ _ _ literals k _ _)
 
 pub overflow_add-at : goal.overflow_add-at
 overflow_add-at c =
@@ -23,15 +18,6 @@ overflow_add-at c =
 
 pub slice_bounds-numbers-end : goal.slice_bounds-numbers-end
 slice_bounds-numbers-end c = ends_within _ _ _ c.loop-left.invariant.0 c.line_length-len.ensures
-
-pub put_clause-end-requires : goal.put_clause-end-requires
-put_clause-end-requires c =
-    omega (arith, c.loop-left.invariant.3, c.requires)
-
-pub overflow_add-at-in-loop-left : goal.overflow_add-at-in-loop-left
-overflow_add-at-in-loop-left c =
-    let text = c.args.text.now in
-    omega (arith, ends_within text c.loop-left.at c.line_length-len.result c.loop-left.invariant.0 c.line_length-len.ensures)
 
 pub loop-left-preserved : goal.loop-left-preserved
 loop-left-preserved c =
@@ -47,9 +33,6 @@ loop-left-preserved c =
           (c.with_literal-m.ensures ∙ ap (mark _ _) c.no_literal.ensures)
           c.put_clause-end.ensures,
     )
-
-pub shape_of-store : goal.shape_of-store
-shape_of-store c = c.loop-left.invariant.4
 
 pub returns : goal.returns
 returns c =

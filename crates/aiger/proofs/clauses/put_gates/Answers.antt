@@ -1,13 +1,7 @@
-use Prim.Native.Nat.{◌+◌, ◌-◌, ◌*◌, ◌≤◌}
-use mathlib.Core.Path.{◌≡◌}
 use native.Mathlib.Omega.{arith}
-use lib.ListN.{length, drop}
-use Rattle.text.proofs.Laying.{writes_length}
 use Rattle.circuit.specs.Import.{gate_clauses, flat}
-use Rattle.aiger.specs.Inner.{place_by}
-use Rattle.aiger.specs.Text.{gates_of}
 use Rattle.aiger.proofs.Threes.{threes_end}
-use Rattle.aiger.proofs.Writing.{Going, going_none, going_then, going_ends, gate_end, gate_next}
+use Rattle.aiger.proofs.Writing.{going_none, going_then, going_ends, gate_end, gate_next}
 use borrow.Author.Rules.{rules}
 use Rattle.aiger.proofs.clauses.put_gates.Goals as goal
 
@@ -21,9 +15,6 @@ loop-i-preserved c =
       search rules,
       going_then l.invariant.2 (gate_next _ _ _ c.loop-i-test.true) c.put_gate-at.ensures,
     )
-
-pub shape_of-store : goal.shape_of-store
-shape_of-store c = writes_length c.loop-i.invariant.2.writes
 
 pub returns : goal.returns
 unfolding gate_clauses flat

@@ -2,14 +2,11 @@
 -- to be. The measure is what is left of the rows. Assumes nothing.
 use Prim.Native.Nat.{◌+◌, ◌-◌, ◌*◌, ◌≤◌}
 use mathlib.Core.Path.{◌≡◌}
-use native.Mathlib.Omega.{arith}
 use lib.ListN.{length, drop}
-use Rattle.text.proofs.Laying.{writes_length}
 use Rattle.circuit.specs.Import.{gate_clauses, flat}
 use Rattle.aiger.specs.Inner.{place_by}
 use Rattle.aiger.specs.Text.{gates_of}
-use Rattle.aiger.proofs.Threes.{threes_end}
-use Rattle.aiger.proofs.Writing.{Going, going_none, going_then, going_ends, gate_end, gate_next}
+use Rattle.aiger.proofs.Writing.{Going}
 use Rattle.aiger.proofs.clauses.put_gates.Given as goal
 
 abbrev pub invariant-loop-i : goal.invariant-loop-i

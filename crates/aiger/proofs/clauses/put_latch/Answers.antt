@@ -6,14 +6,6 @@ use Rattle.circuit.specs.Import.{mark}
 use Rattle.aiger.proofs.Writing.{clause_end, with_plain, with_inverted, latch_masks}
 use Rattle.aiger.proofs.clauses.put_latch.Goals as goal
 
-pub overflow_add-k-2 : goal.overflow_add-k-2
-overflow_add-k-2 c =
-    omega (arith, c.requires)
-
-pub with_bit-requires-2 : goal.with_bit-requires-2
-with_bit-requires-2 c =
-    omega (arith, c.requires)
-
 pub put_clause-requires : goal.put_clause-requires
 put_clause-requires c =
     omega (arith, c.requires, clause_end _ c.put_clause-at.ensures)

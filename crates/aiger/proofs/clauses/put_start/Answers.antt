@@ -1,12 +1,8 @@
-use Prim.Native.Nat.{◌-◌, ◌*◌, ◌≤◌}
-use mathlib.Core.Path.{◌≡◌, refl}
+use mathlib.Core.Path.{refl}
 use native.Mathlib.Omega.{arith}
-use lib.ListN.{length, drop}
-use Rattle.text.proofs.Laying.{writes_length}
 use Rattle.circuit.specs.Import.{start_clauses, flat}
-use Rattle.aiger.specs.Text.{latches_of}
 use Rattle.aiger.proofs.Threes.{threes_end}
-use Rattle.aiger.proofs.Writing.{Going, going_none, going_then, going_ends, start_end, start_next}
+use Rattle.aiger.proofs.Writing.{going_none, going_then, going_ends, start_end, start_next}
 use borrow.Author.Rules.{rules}
 use Rattle.aiger.proofs.clauses.put_start.Goals as goal
 
@@ -21,9 +17,6 @@ loop-i-preserved c =
       search rules,
       going_then l.invariant.3 (start_next _ _ _ c.loop-i-test.true) c.put_first-at.ensures,
     )
-
-pub shape_of-store : goal.shape_of-store
-shape_of-store c = writes_length c.loop-i.invariant.3.writes
 
 pub returns : goal.returns
 unfolding start_clauses flat

@@ -1,14 +1,11 @@
 -- `aiger::put_start` meets its contract. The loop's invariant: the clauses of the first k latches were written, and those of the others are still to
 -- be. The measure is what is left of the rows. Assumes nothing.
 use Prim.Native.Nat.{◌-◌, ◌*◌, ◌≤◌}
-use mathlib.Core.Path.{◌≡◌, refl}
-use native.Mathlib.Omega.{arith}
+use mathlib.Core.Path.{◌≡◌}
 use lib.ListN.{length, drop}
-use Rattle.text.proofs.Laying.{writes_length}
 use Rattle.circuit.specs.Import.{start_clauses, flat}
 use Rattle.aiger.specs.Text.{latches_of}
-use Rattle.aiger.proofs.Threes.{threes_end}
-use Rattle.aiger.proofs.Writing.{Going, going_none, going_then, going_ends, start_end, start_next}
+use Rattle.aiger.proofs.Writing.{Going}
 use Rattle.aiger.proofs.clauses.put_start.Given as goal
 
 abbrev pub invariant-loop-i : goal.invariant-loop-i

@@ -1,15 +1,10 @@
 -- `aiger::all_known` meets its contract. The loop's invariant: all lines are known if those from index i on are. A row with an unknown literal
 -- decides, any other is passed. The measure is what is left of the length. Assumes nothing.
 use Prim.Native.Nat.{◌≤◌, ◌-◌}
-use mathlib.Core.Bool.{◌&&◌}
-use mathlib.Core.Logic.{⊎_elim}
-use mathlib.Core.Path.{◌≡◌, sym, ap₂, ◌∙◌}
-use native.Mathlib.Omega.{arith}
-use borrow.Author.Tests.{not-true, not-false}
+use mathlib.Core.Path.{◌≡◌}
 use lib.ListN.{length, drop}
 use Rattle.aiger.specs.Text.{vars}
-use Rattle.aiger.specs.Inner.{known_in, all_known}
-use Rattle.aiger.proofs.Finding.{left_fails, right_fails, gate_at, every_stops, every_passes, every_end}
+use Rattle.aiger.specs.Inner.{all_known}
 use Rattle.aiger.proofs.find.all_known.Given as goal
 
 abbrev pub invariant-loop-i : goal.invariant-loop-i

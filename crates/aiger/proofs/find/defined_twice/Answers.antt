@@ -1,9 +1,5 @@
-use Prim.Native.Nat.{◌≤◌, ◌-◌}
-use mathlib.Core.Path.{◌≡◌, sym, ◌∙◌}
+use mathlib.Core.Path.{sym, ◌∙◌}
 use native.Mathlib.Omega.{arith}
-use lib.ListN.{length, drop}
-use Rattle.circuit.specs.Refusals.{twice}
-use Rattle.aiger.specs.Text.{vars}
 use Rattle.aiger.proofs.Finding.{twice_found, twice_passed, twice_end}
 use Rattle.aiger.proofs.find.defined_twice.Goals as goal
 

@@ -1,14 +1,6 @@
-use Prim.Native.Nat.{◌+◌, ◌≤◌, ◌-◌}
-use mathlib.Core.Path.{◌≡◌}
 use native.Mathlib.Omega.{arith}
-use lib.ListN.{length, drop}
-use Rattle.circuit.specs.Circuit.{index}
-use Rattle.aiger.specs.Text.{vars}
 use Rattle.aiger.proofs.Finding.{index_here, index_later, index_end}
 use Rattle.aiger.proofs.find.find.Goals as goal
-
-pub loop-i-init : goal.loop-i-init
-loop-i-init c = (omega arith, omega arith, omega arith)
 
 pub returns-then-rows-i : goal.returns-then-rows-i
 returns-then-rows-i c =

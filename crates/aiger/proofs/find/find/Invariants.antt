@@ -2,11 +2,9 @@
 -- is left of the length. Assumes nothing.
 use Prim.Native.Nat.{◌+◌, ◌≤◌, ◌-◌}
 use mathlib.Core.Path.{◌≡◌}
-use native.Mathlib.Omega.{arith}
 use lib.ListN.{length, drop}
 use Rattle.circuit.specs.Circuit.{index}
 use Rattle.aiger.specs.Text.{vars}
-use Rattle.aiger.proofs.Finding.{index_here, index_later, index_end}
 use Rattle.aiger.proofs.find.find.Given as goal
 
 abbrev pub invariant-loop-i : goal.invariant-loop-i

@@ -1,12 +1,10 @@
 -- `aiger::loop_free` meets its contract. The loop's invariant: the mask is that of i / 3 rounds, where three divides i. The measure is what is left
 -- of the length. Assumes nothing.
-use Prim.Native.Nat.{suc, ◌+◌, ◌-◌, ◌/◌, ◌%◌, ◌≤◌}
-use mathlib.Core.Path.{◌≡◌, refl, sym, ap, ◌∙◌}
-use native.Mathlib.Omega.{arith}
+use Prim.Native.Nat.{◌-◌, ◌/◌, ◌%◌, ◌≤◌}
+use mathlib.Core.Path.{◌≡◌}
 use lib.ListN.{length}
-use Rattle.circuit.specs.Loops.{round, rounds}
+use Rattle.circuit.specs.Loops.{rounds}
 use Rattle.aiger.specs.Text.{gates_of}
-use Rattle.aiger.proofs.Settling.{loop_decided}
 use Rattle.aiger.proofs.find.loop_free.Given as goal
 
 abbrev pub invariant-loop-i : goal.invariant-loop-i

@@ -1,16 +1,8 @@
 -- `aiger::settle` meets its contract. The loop's invariant: the bits below k are gathered, and the rows from index i = 3k on give the others. There
 -- are at most 64 gates, so each bit fits. The measure is what is left of the length. Assumes nothing.
-use Prim.Native.Nat.{suc, ◌-◌, ◌≤◌}
-use mathlib.Core.Bool.{true, false, ◌&&◌}
-use mathlib.Core.Logic.{⊎_elim}
-use mathlib.Core.Path.{sym, ap₂, ◌∙◌}
-use native.Mathlib.Nat.{pow-suc}
-use native.Mathlib.Omega.{arith}
+use Prim.Native.Nat.{◌-◌, ◌≤◌}
 use lib.ListN.{length}
-use lib.Pow.{pow_mono}
-use Rattle.masks.proofs.OneBit.{pow_within}
-use Rattle.aiger.proofs.Settling.{settled_literal, Gathers, gathers_none, gathers_next, gathers_all}
-use Rattle.aiger.proofs.Finding.{gate_at, left_fails, right_fails}
+use Rattle.aiger.proofs.Settling.{Gathers}
 use Rattle.aiger.proofs.find.settle.Given as goal
 
 abbrev pub invariant-loop-i : goal.invariant-loop-i

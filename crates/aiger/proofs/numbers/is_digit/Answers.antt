@@ -1,12 +1,12 @@
 -- `numbers::is_digit` meets its contract: it compares as the definition does. Assumes nothing.
-use borrow.Author.Tests.{le-leb, lt-leb}
 use Rattle.aiger.specs.Numbers.{is_digit}
+use borrow.Author.Rules.{rules}
 use Rattle.aiger.proofs.numbers.is_digit.Goals as goal
 
 pub returns-then-c-ge48 : goal.returns-then-c-ge48
 unfolding is_digit
-returns-then-c-ge48 c = rw (le-leb 48 _ c.if-c-ge48.true)
+returns-then-c-ge48 c = search rules
 
 pub returns-else-c-ge48 : goal.returns-else-c-ge48
 unfolding is_digit
-returns-else-c-ge48 c = rw (lt-leb 48 _ c.if-c-ge48.false)
+returns-else-c-ge48 c = search rules

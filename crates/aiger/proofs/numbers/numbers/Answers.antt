@@ -1,85 +1,59 @@
-use Prim.Native.Nat.{◌-◌}
-use mathlib.Core.Logic.{⊎_elim}
 use mathlib.Core.Path.{sym, ◌∙◌}
-use native.Mathlib.Omega.{arith}
-use borrow.Author.Tests.{not-true, not-false, eqb-true, eqb-false}
-use lib.ListN.{length}
-use Rattle.aiger.proofs.Numbering.{Walked, digit_least, walked_first, walked_length, walked_past, walked_digit, walked_huge, walked_early, walked_full, walked_blank, walked_feed, walked_other}
+use Rattle.aiger.proofs.Numbering.{digit_least, walked_first, walked_past, walked_digit, walked_huge, walked_early, walked_full, walked_blank, walked_feed, walked_other}
+use borrow.Author.Rules.{rules}
 use Rattle.aiger.proofs.numbers.numbers.Goals as goal
+use Rattle.aiger.proofs.numbers.numbers.Goals.{
+  else-c-eq10-via-then-c-eq10+else-j-line,
+  else-c-eq10-via-else-c-eq10,
+  then-is_digit+else-value-ge-LIMIT,
+  else-is_digit+else-not-begun+else-count-into+else-c-ne32,
+}
 
 pub loop-j-init : goal.loop-j-init
 loop-j-init c = walked_first _ _
 
-pub overflow_cast-value : goal.overflow_cast-value
-overflow_cast-value c = omega (arith, c.type_inv.line c.loop-j.j)
-
 pub overflow_sub-value : goal.overflow_sub-value
 overflow_sub-value c = digit_least _ (sym c.is_digit.ensures ∙ c.if-is_digit.true)
-
-pub overflow_add-value : goal.overflow_add-value
-overflow_add-value c =
-    omega (arith, c.loop-j.invariant.small, c.type_inv.line c.loop-j.j)
-
-pub shape_of-into-then-value-ge-LIMIT : goal.shape_of-into-then-value-ge-LIMIT
-shape_of-into-then-value-ge-LIMIT c = walked_length c.loop-j.invariant
 
 pub returns-then-value-ge-LIMIT : goal.returns-then-value-ge-LIMIT
 returns-then-value-ge-LIMIT c =
     let digit = sym c.is_digit.ensures ∙ c.if-is_digit.true in
     walked_huge c.loop-j-test.true c.loop-j.invariant digit c.if-value-ge-LIMIT.true
 
-pub shape_of-into-then-not-begun : goal.shape_of-into-then-not-begun
-shape_of-into-then-not-begun c = walked_length c.loop-j.invariant
-
 pub returns-then-not-begun : goal.returns-then-not-begun
 returns-then-not-begun c =
     let other = sym c.is_digit.ensures ∙ c.if-is_digit.false in
-    walked_early c.loop-j-test.true c.loop-j.invariant other (not-true _ c.if-not-begun.true)
-
-pub shape_of-into-then-count-into : goal.shape_of-into-then-count-into
-shape_of-into-then-count-into c = walked_length c.loop-j.invariant
+    walked_early c.loop-j-test.true c.loop-j.invariant other c.if-not-begun.true
 
 pub returns-then-count-into : goal.returns-then-count-into
 returns-then-count-into c =
     let other = sym c.is_digit.ensures ∙ c.if-is_digit.false in
-    walked_full c.loop-j-test.true c.loop-j.invariant other (not-false _ c.if-not-begun.false) c.if-count-into.true
-
-pub bounds-into-count : goal.bounds-into-count
-bounds-into-count c =
-    let w = c.loop-j.invariant in
-    omega (arith, c.if-count-into.false, walked_length w, w.fits)
+    walked_full c.loop-j-test.true c.loop-j.invariant other c.if-not-begun.false c.if-count-into.true
 
 pub returns-then-j-line : goal.returns-then-j-line
 returns-then-j-line c =
     let other = sym c.is_digit.ensures ∙ c.if-is_digit.false in
-    walked_feed c.loop-j-test.true c.loop-j.invariant other (not-false _ c.if-not-begun.false) c.if-count-into.false
-    c.if-c-eq10.true (eqb-true _ _ c.if-j-line.true)
-
-pub shape_of-into-then-j-line : goal.shape_of-into-then-j-line
-shape_of-into-then-j-line c = (returns-then-j-line c).same
+    walked_feed c.loop-j-test.true c.loop-j.invariant other c.if-not-begun.false c.if-count-into.false
+    c.if-c-eq10.true c.if-j-line.true
 
 pub returns-else-c-eq10 : goal.returns-else-c-eq10
 returns-else-c-eq10 c =
     let other = sym c.is_digit.ensures ∙ c.if-is_digit.false in
-    walked_other c.loop-j-test.true c.loop-j.invariant other (not-false _ c.if-not-begun.false) c.if-count-into.false
-    c.if-c-ne32.true (λ b l. ⊎_elim (λ w. eqb-false _ _ w.1.left l) (λ w. w.left b) c.else-c-eq10.branch)
-
-pub shape_of-into-else-c-eq10 : goal.shape_of-into-else-c-eq10
-shape_of-into-else-c-eq10 c = (returns-else-c-eq10 c).same
+    walked_other c.loop-j-test.true c.loop-j.invariant other c.if-not-begun.false c.if-count-into.false
+    c.if-c-ne32.true
+    (search rules)
 
 pub loop-j-preserved : goal.loop-j-preserved
 loop-j-preserved c =
     let test = sym c.is_digit.ensures in
-    ⊎_elim
-    (λ w.
-    rw (w.2, w.3, w.4, w.5) (walked_digit c.loop-j-test.true c.loop-j.invariant (test ∙ w.0.taken) w.1.left))
-    (λ w.
-    rw (w.4, w.5, w.6, w.7)
-    (walked_blank c.loop-j-test.true c.loop-j.invariant (test ∙ w.0.left) (not-false _ w.1.left) w.2.left w.3.left))
-    c.if-is_digit.branch
-
-pub shape_of-into : goal.shape_of-into
-shape_of-into c = walked_length c.loop-j.invariant
+    elim c.if-is_digit.branch [
+      | then-is_digit+else-value-ge-LIMIT w ↦
+          rw (w.into-is, w.count-is, w.begun-is, w.value-is)
+          (walked_digit c.loop-j-test.true c.loop-j.invariant (test ∙ w.if-is_digit.true) w.if-value-ge-LIMIT.false)
+      | else-is_digit+else-not-begun+else-count-into+else-c-ne32 w ↦
+          rw (w.into-is, w.count-is, w.begun-is, w.value-is)
+          (walked_blank c.loop-j-test.true c.loop-j.invariant (test ∙ w.if-is_digit.false) w.if-not-begun.false w.if-count-into.false w.if-c-ne32.false)
+    ]
 
 pub returns : goal.returns
 returns c = walked_past c.loop-j.invariant c.loop-j-test.false

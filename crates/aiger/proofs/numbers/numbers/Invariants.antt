@@ -1,12 +1,8 @@
 -- `numbers::numbers` meets its contract. The loop's invariant: the numbers in front of the index are in the store, and the line's numbers are these
 -- and those of the rest, of which one may have begun. The measure is what is left of the line. Assumes nothing.
 use Prim.Native.Nat.{◌-◌}
-use mathlib.Core.Logic.{⊎_elim}
-use mathlib.Core.Path.{sym, ◌∙◌}
-use native.Mathlib.Omega.{arith}
-use borrow.Author.Tests.{not-true, not-false, eqb-true, eqb-false}
 use lib.ListN.{length}
-use Rattle.aiger.proofs.Numbering.{Walked, digit_least, walked_first, walked_length, walked_past, walked_digit, walked_huge, walked_early, walked_full, walked_blank, walked_feed, walked_other}
+use Rattle.aiger.proofs.Numbering.{Walked}
 use Rattle.aiger.proofs.numbers.numbers.Given as goal
 
 abbrev pub invariant-loop-j : goal.invariant-loop-j
