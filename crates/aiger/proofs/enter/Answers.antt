@@ -10,8 +10,7 @@ pub slice_bounds-latches-end : goal.slice_bounds-latches-end
 slice_bounds-latches-end c = sym (many_latches _ _ c.requires.0)
 
 pub enter_start-i-requires : goal.enter_start-i-requires
-enter_start-i-requires c =
-    omega (arith, many_latches _ _ c.requires.0, c.requires.0.limits.latches)
+enter_start-i-requires c = omega (arith, many_latches _ _ c.requires.0, c.requires.0.limits.latches)
 
 pub enter_step-t-requires : goal.enter_step-t-requires
 enter_step-t-requires c =
@@ -20,29 +19,17 @@ enter_step-t-requires c =
     (rw third (fits _ _ c.requires.0), few_gates _ _ c.requires.0, c.requires.1, c.requires.2)
 
 pub enter_bad-b-requires : goal.enter_bad-b-requires
-enter_bad-b-requires c =
-    let s =
-    c in
-    (fits _ _ s.pre.0, few_gates _ _ s.pre.0, s.pre.1, s.pre.2)
+enter_bad-b-requires c = (fits _ _ c.requires.0, few_gates _ _ c.requires.0, c.requires.1, c.requires.2)
 
 -- the counts are small
 pub overflow_cast-result : goal.overflow_cast-result
-overflow_cast-result c =
-    let s =
-    c in
-    omega (arith, s.pre.0.limits)
+overflow_cast-result c = omega (arith, c.requires.0.limits)
 
 pub overflow_add-result : goal.overflow_add-result
-overflow_add-result c =
-    let s =
-    c in
-    omega (arith, s.pre.0.limits)
+overflow_add-result c = omega (arith, c.requires.0.limits)
 
 pub overflow_cast-result-2 : goal.overflow_cast-result-2
-overflow_cast-result-2 c =
-    let s =
-    c in
-    omega (arith, s.pre.0.limits)
+overflow_cast-result-2 c = omega (arith, c.requires.0.limits)
 
 pub returns : goal.returns
 returns c =
