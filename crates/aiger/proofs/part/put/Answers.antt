@@ -13,6 +13,3 @@ returns c =
       ];
       end = refl;
     }
-
-pub shape_of-store : goal.shape_of-store
-shape_of-store c = writes_length (returns c)

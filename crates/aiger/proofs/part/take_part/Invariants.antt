@@ -1,15 +1,10 @@
 -- The loop of `part::take_part`: a turn can begin at the reader's place, and from the part's beginning to there rows were read and written. The measure
 -- is how many lines are left, while there is one to take: where the text has ended the reader's place stays, but the turn finds a fault.
-use Prim.Native.Nat.{ℕ, suc}
-use mathlib.Core.Bool.{Bool, true, false}
+use Prim.Native.Nat.{◌+◌}
+use mathlib.Core.Bool.{true, false}
 use mathlib.Core.Path.{◌≡◌}
 use Rattle.aiger.specs.Inner.{Stands, Onward}
 use Rattle.aiger.proofs.part.take_part.Given as goal
-
--- how many turns there are at most
-abbrev pub turns : Bool → ℕ → ℕ
-turns true left = suc left
-turns false left = 0
 
 abbrev pub invariant-loop-s : goal.invariant-loop-s
 invariant-loop-s l =
@@ -20,4 +15,4 @@ invariant-loop-s l =
     }
 
 abbrev pub decreases-loop-s : goal.decreases-loop-s
-decreases-loop-s l = turns l.s.more l.s.left
+decreases-loop-s l = elim l.s.more [ true ↦ l.s.left + 1 | false ↦ 0 ]

@@ -13,13 +13,6 @@ returns-then-not-row_fits c =
     turn_stops c.requires
     (told_wrong c.numbers-count.ensures c.row_fits.ensures c.requires.stands.bounded.width c.requires.stands.bounded.start c.if-not-row_fits.true)
 
-pub overflow_sub-result : goal.overflow_sub-result
-overflow_sub-result c = turn_left c.requires
-
-pub overflow_add-result : goal.overflow_add-result
-overflow_add-result c =
-    omega (arith, c.requires.stands.bounded.lines)
-
 pub returns : goal.returns
 returns c =
     turn_goes c.requires refl (told_right c.numbers-count.ensures c.row_fits.ensures c.if-not-row_fits.false) c.put_row-next.ensures

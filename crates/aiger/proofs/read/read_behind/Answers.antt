@@ -8,6 +8,3 @@ returns-then-h-ne0 c = read_justice _ _ _ (λ e. omega arith) c.faulty.ensures
 
 pub returns : goal.returns
 returns c = read_safety _ _ _ c.if-h-ne0.false c.if-h-ne0-2.false c.read_parts.ensures
-
-pub shape_of-rows : goal.shape_of-rows
-shape_of-rows c = (returns c).same

@@ -7,13 +7,6 @@ use Rattle.aiger.proofs.Parting.{part_begins, part_read}
 use Rattle.aiger.proofs.Telling.{fault_inputs, fault_latches, fault_singles, fault_gates, parts_right}
 use Rattle.aiger.proofs.read.read_parts.Goals as goal
 
-pub take_part-s-requires : goal.take_part-s-requires
-take_part-s-requires c =
-    let pre = c.requires in
-    rw c.begin.ensures
-    (part_begins pre.1 (omega arith) (omega (arith, pre.0.inputs, pre.0.latches)) (omega (arith, pre.0.inputs)) (omega arith) (omega arith)
-    (λ e. clash e refl))
-
 pub returns-then-s : goal.returns-then-s
 returns-then-s c = fault_inputs _ _ _ _ (rw c.begin.ensures at c.take_part-s.ensures) c.if-s.true c.faulty.ensures
 
@@ -30,12 +23,6 @@ returns-then-s-2 c =
     let inputs = part_read (rw c.begin.ensures at c.take_part-s.ensures) c.if-s.false in
     fault_latches _ _ _ _ inputs (rw c.begin-2.ensures at c.take_part-s-2.ensures) c.if-s-2.true c.faulty-then-s-2.ensures
 
-pub overflow_add-singles : goal.overflow_add-singles
-overflow_add-singles c = omega (arith, c.requires.0)
-
-pub overflow_add-singles-2 : goal.overflow_add-singles-2
-overflow_add-singles-2 c = omega (arith, c.requires.0)
-
 pub take_part-s-requires-3 : goal.take_part-s-requires-3
 take_part-s-requires-3 c =
     let pre = c.requires in
@@ -50,15 +37,6 @@ returns-then-s-3 c =
     let inputs = part_read (rw c.begin.ensures at c.take_part-s.ensures) c.if-s.false in
     let latches = part_read (rw c.begin-2.ensures at c.take_part-s-2.ensures) c.if-s-2.false in
     fault_singles _ _ _ _ inputs latches (rw c.begin-3.ensures at c.take_part-s-3.ensures) c.if-s-3.true c.faulty-then-s-3.ensures
-
-pub shape_of-rows-then-s-3 : goal.shape_of-rows-then-s-3
-shape_of-rows-then-s-3 c = (returns-then-s-3 c).same
-
-pub overflow_mul-h : goal.overflow_mul-h
-overflow_mul-h c = omega (arith, c.requires.0.inputs)
-
-pub overflow_add-latches : goal.overflow_add-latches
-overflow_add-latches c = omega (arith, c.requires.0.inputs, c.requires.0.latches)
 
 pub take_part-s-requires-4 : goal.take_part-s-requires-4
 take_part-s-requires-4 c =
@@ -78,9 +56,6 @@ returns-then-s-4 c =
     let singles = part_read (rw c.begin-3.ensures at c.take_part-s-3.ensures) c.if-s-3.false in
     fault_gates _ _ _ _ inputs latches singles (rw c.begin-4.ensures at c.take_part-s-4.ensures) c.if-s-4.true c.faulty-then-s-4.ensures
 
-pub shape_of-rows-then-s-4 : goal.shape_of-rows-then-s-4
-shape_of-rows-then-s-4 c = (returns-then-s-4 c).same
-
 pub returns : goal.returns
 returns c =
     let pre = c.requires in
@@ -89,6 +64,3 @@ returns c =
     let singles = part_read (rw c.begin-3.ensures at c.take_part-s-3.ensures) c.if-s-3.false in
     let gates = part_read (rw c.begin-4.ensures at c.take_part-s-4.ensures) c.if-s-4.false in
     parts_right _ _ _ _ inputs latches singles pre.1 pre.0 (omega arith) gates
-
-pub shape_of-rows : goal.shape_of-rows
-shape_of-rows c = (returns c).same
