@@ -5,7 +5,7 @@ use mathlib.Core.Logic.{inl, inr}
 use mathlib.Core.Path.{◌≡◌, refl, sym, ap, ◌∙◌}
 use native.Mathlib.Omega.{arith}
 use Rattle.aiger.specs.Promise.{line_for, imported_as}
-use Rattle.aiger.proofs.Slices.{fits, few_gates, gates_within, gates_threes, many_latches}
+use Rattle.aiger.proofs.Slices.{fits, few_gates, gates_threes, many_latches}
 use Rattle.aiger.proofs.Heading.{refused}
 use Rattle.aiger.proofs.Judging.{held_sized, held_loops, number_24, number_25, number_last, last_few, last_room, last_none, last_refused}
 use Rattle.aiger.proofs.Listing.{enters_system}
@@ -31,8 +31,7 @@ returns-then-wrong_rows c h =
     refused _ _ (number_24 h _ _ _ (wrong_24 _ _ (sym c.wrong_rows.ensures ∙ c.if-wrong_rows.true))) (omega arith) refl c.refused_at.ensures
 
 pub see-known-requires : goal.see-known-requires
-see-known-requires c =
-    (fits _ _ (held_sized c.requires), c.requires.counted.singles_again.1.within)
+see-known-requires c = (fits _ _ (held_sized c.requires), c.requires.counted.singles_again.1.within)
 
 pub returns-then-not-known : goal.returns-then-not-known
 unfolding line_for
@@ -43,15 +42,8 @@ returns-then-not-known c h =
     c.if-not-known.true))
     (omega arith) refl c.refused_at-then-not-known.ensures
 
-pub slice_bounds-loop_free-count : goal.slice_bounds-loop_free-count
-slice_bounds-loop_free-count c = gates_within _ _ (held_sized c.requires)
-
-pub slice_bounds-loop_free-start : goal.slice_bounds-loop_free-start
-slice_bounds-loop_free-start c = gates_within _ _ (held_sized c.requires)
-
 pub loop_free-requires : goal.loop_free-requires
-loop_free-requires c =
-    (gates_threes _ _ (held_sized c.requires), few_gates _ _ (held_sized c.requires))
+loop_free-requires c = (gates_threes _ _ (held_sized c.requires), few_gates _ _ (held_sized c.requires))
 
 pub returns-then-not-loop_free : goal.returns-then-not-loop_free
 unfolding line_for
@@ -61,10 +53,6 @@ returns-then-not-loop_free c h =
     (number_25 h _ _ _ (right_24 _ _ _ fine (c.see-known.ensures.says h.singles h.counted.singles_again).0 c.if-not-known.false)
     (sym (held_loops h fine _ c.loop_free.ensures) ∙ c.if-not-loop_free.true))
     (omega arith) refl c.refused_at-then-not-loop_free.ensures
-
-pub slice_bounds-latches-end : goal.slice_bounds-latches-end
-slice_bounds-latches-end c =
-    sym (many_latches _ _ (held_sized c.requires))
 
 pub last_refusal-number-requires : goal.last_refusal-number-requires
 last_refusal-number-requires c =

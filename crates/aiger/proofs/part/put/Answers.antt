@@ -1,6 +1,6 @@
 -- `part::put` meets its contract: within the store one place is set, and past its end nothing is. Assumes nothing.
 use mathlib.Core.Path.{refl, sym, ◌∙◌}
-use Rattle.text.proofs.Laying.{laid_one, laid_past, writes_length}
+use Rattle.text.proofs.Laying.{laid_one, laid_past}
 use Rattle.aiger.proofs.part.put.Goals as goal
 use Rattle.aiger.proofs.part.put.Goals.{then-at-store, else-at-store}
 

@@ -2,7 +2,7 @@
 use mathlib.Core.Path.{refl}
 use native.Mathlib.Omega.{arith}
 use Rattle.aiger.proofs.Rows.{told_right, told_wrong}
-use Rattle.aiger.proofs.Parting.{turn_within, turn_left, turn_stops, turn_goes}
+use Rattle.aiger.proofs.Parting.{turn_within, turn_stops, turn_goes}
 use Rattle.aiger.proofs.part.take_turn.Goals as goal
 
 pub slice_bounds-numbers-end : goal.slice_bounds-numbers-end
