@@ -17,8 +17,7 @@ positive x f = ⊎_elim (λ e. absurd (f e)) (λ p. p) (eq-zero-or-pos x)
 
 pub returns-then-r-ne0 : goal.returns-then-r-ne0
 unfolding result_of
-returns-then-r-ne0 c =
-    imports _ _ _ _ _ (rw (c.read-r.ensures.wrong c.if-r-ne0.true, c.refused_at.ensures))
+returns-then-r-ne0 c = imports _ _ _ _ _ (rw (c.read-r.ensures.wrong c.if-r-ne0.true, c.refused_at.ensures))
 
 pub returns-then-too_few : goal.returns-then-too_few
 unfolding result_of
@@ -32,8 +31,7 @@ unfolding result_of
 returns-then-right-h c =
     let kept = c.read-r.ensures.right c.if-r-ne0.false in
     let right = c.right_starts-right.ensures c.read-r.result.header kept.latches kept.counted.latches_again in
-    let number =
-    number_28 kept.counted _ _ _ (sym c.too_few.ensures ∙ c.if-too_few.false) _ right c.if-right-h.true in
+    let number = number_28 kept.counted _ _ _ (sym c.too_few.ensures ∙ c.if-too_few.false) _ right c.if-right-h.true in
     imports _ _ _ _ _ (rw kept.says (refused _ _ number.0 (omega arith) number.1 c.refused_at-then-right-h.ensures))
 
 pub returns-then-number-ne0 : goal.returns-then-number-ne0

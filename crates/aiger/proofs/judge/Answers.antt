@@ -65,7 +65,8 @@ returns-then-number-ne0 c h =
     last_refused h _ _ _ _ c.last_refusal-number.ensures _
     (number_last h _ _ _ (right_24 _ _ _ fine (c.see-known.ensures.says h.singles h.counted.singles_again).0 c.if-not-known.false)
     (sym (held_loops h fine _ c.loop_free.ensures) ∙ c.if-not-loop_free.false))
-    c.if-number-ne0.true (elim c.if-number-eq26.branch [
+    c.if-number-ne0.true
+    (elim c.if-number-eq26.branch [
       | then-number-eq26 w ↦ inl (w.if-number-eq26.true, w.refused_at-is)
       | else-number-eq26 w ↦ inr (w.if-number-eq26.false, w.refused_at-is)
     ])
@@ -74,7 +75,8 @@ returns-then-number-ne0 c h =
 pub enter-requires : goal.enter-requires
 enter-requires c =
     let h = c.requires in
-    (held_sized h, c.see-known.ensures.within, omega (arith, c.see-known.ensures.count, last_few h _ _ _ (last_none h _ _ _ _ c.last_refusal-number.ensures c.if-number-ne0.false)))
+    let none = last_none h _ _ _ _ c.last_refusal-number.ensures c.if-number-ne0.false in
+    (held_sized h, c.see-known.ensures.within, omega (arith, c.see-known.ensures.count, last_few h _ _ _ none))
 
 pub returns : goal.returns
 unfolding imported_as
