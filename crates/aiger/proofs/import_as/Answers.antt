@@ -17,12 +17,7 @@ positive x f = ⊎_elim (λ e. absurd (f e)) (λ p. p) (eq-zero-or-pos x)
 
 pub returns-then-r-ne0 : goal.returns-then-r-ne0
 unfolding result_of
-returns-then-r-ne0 c =
-    imports _ _ _ _ _ (rw (c.read-r.ensures.wrong c.if-r-ne0.true, c.refused_at.ensures))
-
-pub too_few-requires : goal.too_few-requires
-too_few-requires c =
-    (c.read-r.ensures.right c.if-r-ne0.false).counted.small
+returns-then-r-ne0 c = imports _ _ _ _ _ (rw (c.read-r.ensures.wrong c.if-r-ne0.true, c.refused_at.ensures))
 
 pub returns-then-too_few : goal.returns-then-too_few
 unfolding result_of
@@ -31,30 +26,13 @@ returns-then-too_few c =
     let number = number_21 kept.counted _ _ _ (sym c.too_few.ensures ∙ c.if-too_few.true) in
     imports _ _ _ _ _ (rw kept.says (refused _ _ number.0 (omega arith) number.1 c.refused_at-then-too_few.ensures))
 
-pub right_starts-right-requires : goal.right_starts-right-requires
-right_starts-right-requires c =
-    (c.read-r.ensures.right c.if-r-ne0.false).counted.latches_again.1.within
-
-pub overflow_add-h : goal.overflow_add-h
-overflow_add-h c =
-    omega (arith, (c.read-r.ensures.right c.if-r-ne0.false).counted.small)
-
-pub overflow_add-h-then-right-h : goal.overflow_add-h-then-right-h
-overflow_add-h-then-right-h c =
-    omega (arith, (c.read-r.ensures.right c.if-r-ne0.false).counted.small, c.if-right-h.true)
-
 pub returns-then-right-h : goal.returns-then-right-h
 unfolding result_of
 returns-then-right-h c =
     let kept = c.read-r.ensures.right c.if-r-ne0.false in
     let right = c.right_starts-right.ensures c.read-r.result.header kept.latches kept.counted.latches_again in
-    let number =
-    number_28 kept.counted _ _ _ (sym c.too_few.ensures ∙ c.if-too_few.false) _ right c.if-right-h.true in
+    let number = number_28 kept.counted _ _ _ (sym c.too_few.ensures ∙ c.if-too_few.false) _ right c.if-right-h.true in
     imports _ _ _ _ _ (rw kept.says (refused _ _ number.0 (omega arith) number.1 c.refused_at-then-right-h.ensures))
-
-pub header_refusal-number-requires : goal.header_refusal-number-requires
-header_refusal-number-requires c =
-    (c.read-r.ensures.right c.if-r-ne0.false).counted.small
 
 pub returns-then-number-ne0 : goal.returns-then-number-ne0
 unfolding result_of
@@ -67,15 +45,6 @@ returns-then-number-ne0 c =
     imports _ _ _ _ _
     (rw kept.says
     (refused _ _ number.0 (positive _ wrong) number.1 (c.refused_at-then-number-ne0.ensures ∙ ap (λ (x : ℕ). refused_at x 1) c.header_refusal-number.ensures)))
-
-pub overflow_add-count : goal.overflow_add-count
-overflow_add-count c = omega (arith, header_limits _ (sym c.header_refusal-number.ensures ∙ c.if-number-ne0.false))
-
-pub overflow_add-count-2 : goal.overflow_add-count-2
-overflow_add-count-2 c = omega (arith, header_limits _ (sym c.header_refusal-number.ensures ∙ c.if-number-ne0.false))
-
-pub overflow_mul-count : goal.overflow_mul-count
-overflow_mul-count c = omega (arith, header_limits _ (sym c.header_refusal-number.ensures ∙ c.if-number-ne0.false))
 
 pub slice_bounds-rows-end : goal.slice_bounds-rows-end
 slice_bounds-rows-end c =

