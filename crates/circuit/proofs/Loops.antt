@@ -33,8 +33,8 @@ module _ (gs : List Gate) (d : Distinct (outs gs)) where
           (k, refl, ⊎_elim (λ y. rw y p.0) (λ y. rw y p.1) r.operand)
 
   depends_less : {v u : ℕ} → Depends gs v u → (k : ℕ) → settled gs k u ≡ true → (j : ℕ) × (j < k) × (settled gs j v ≡ true)
-  depends_less {u} {v} (once r) k e = let p = uses_less k u v r e in (p.0, omega (arith, p.1), p.2)
-  depends_less {u} {v} (more {t = t} r w) k e =
+  depends_less {v} {u} (once r) k e = let p = uses_less k u v r e in (p.0, omega (arith, p.1), p.2)
+  depends_less {v} {u} (more {t = t} r w) k e =
       let p = uses_less k u t r e in
       let q = depends_less w p.0 p.2 in
       (q.0, omega (arith, p.1, q.1), q.2)
