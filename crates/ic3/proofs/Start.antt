@@ -7,7 +7,7 @@ use native.Mathlib.Omega.{arith}
 use Rattle.ic3.specs.Theorems.{Started}
 use Rattle.ic3.specs.Answers.{Answers}
 use Rattle.ic3.specs.Model.{Model}
-use Rattle.ic3.specs.Search.{Entry, put, Phase, look, settle, raise, wanted, Move, Rounds, tested, found, deeper, settled, react, begun, searched}
+use Rattle.ic3.specs.Search.{Entry, put, Phase, look, settle, raise, wanted, Move, Rounds, tested, found, deeper, react, begun, searched}
 use Rattle.ic3.specs.Demands.{HasStart}
 use Rattle.ic3.proofs.Round.{Lands, round_lands, tested_lands, kept_lands}
 use Rattle.ic3.proofs.Sound.{Kept, Stands, Then, search_keeps}

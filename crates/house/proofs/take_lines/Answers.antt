@@ -11,7 +11,7 @@ pub loop-s-smaller : goal.loop-s-smaller
 loop-s-smaller c =
     let line = line_at c.args.text.now c.loop-s.r.at (c.loop-s.invariant.stands.left c.loop-s-test.true) in
     let place : c.next_line-r.result.at ≡ c.loop-s.r.at + line_length (drop c.loop-s.r.at c.args.text.now) =
-        rw (c.next_line-r.ensures, c.loop-s.invariant.text) in
+    rw (c.next_line-r.ensures, c.loop-s.invariant.text) in
     omega (arith, line.filled, line.within)
 
 pub returns : goal.returns

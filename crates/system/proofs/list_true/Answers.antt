@@ -1,9 +1,5 @@
-use Prim.Native.Nat.{◌≤◌, ◌-◌}
-use mathlib.Core.Path.{◌≡◌, sym, ◌∙◌}
+use mathlib.Core.Path.{sym, ◌∙◌}
 use native.Mathlib.Omega.{arith}
-use borrow.Author.Tests.{not-true, not-false}
-use lib.ListN.{length, drop}
-use Rattle.system.specs.System.{list_true}
 use Rattle.system.proofs.Lists.{list_stops, list_passes, list_ends}
 use Rattle.system.proofs.list_true.Goals as goal
 
@@ -13,12 +9,11 @@ returns-then-not-clause_true c =
     ∙ list_stops _ _ _ _ c.loop-i-test.true (sym c.clause_true.ensures ∙ c.if-not-clause_true.true))
 
 pub loop-i-preserved : goal.loop-i-preserved
-loop-i-preserved c =
-    (
-      omega arith,
-      c.loop-i.invariant.1
-          ∙ list_passes _ _ _ _ c.loop-i-test.true (sym c.clause_true.ensures ∙ c.if-not-clause_true.false),
-    )
+loop-i-preserved c = (
+  omega arith,
+  c.loop-i.invariant.1
+      ∙ list_passes _ _ _ _ c.loop-i-test.true (sym c.clause_true.ensures ∙ c.if-not-clause_true.false),
+)
 
 pub returns : goal.returns
 returns c = sym (c.loop-i.invariant.1 ∙ list_ends _ _ _ _ c.loop-i-test.false)

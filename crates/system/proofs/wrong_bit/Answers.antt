@@ -1,8 +1,5 @@
-use Prim.Native.Nat.{◌≤◌, ◌-◌}
-use mathlib.Core.Path.{◌≡◌, refl, sym, ◌∙◌}
+use mathlib.Core.Path.{sym, ◌∙◌}
 use native.Mathlib.Omega.{arith}
-use lib.ListN.{length, drop}
-use Rattle.system.specs.System.{wrong_bit}
 use Rattle.system.proofs.Refusals.{bit_stops, bit_passes, bit_ends}
 use Rattle.system.proofs.wrong_bit.Goals as goal
 
@@ -12,12 +9,11 @@ returns-then-wrong_clause c =
     ∙ bit_stops _ _ _ _ _ c.loop-i-test.true (sym c.wrong_clause.ensures ∙ c.if-wrong_clause.true))
 
 pub loop-i-preserved : goal.loop-i-preserved
-loop-i-preserved c =
-    (
-      omega arith,
-      c.loop-i.invariant.1
-          ∙ bit_passes _ _ _ _ _ c.loop-i-test.true (sym c.wrong_clause.ensures ∙ c.if-wrong_clause.false),
-    )
+loop-i-preserved c = (
+  omega arith,
+  c.loop-i.invariant.1
+      ∙ bit_passes _ _ _ _ _ c.loop-i-test.true (sym c.wrong_clause.ensures ∙ c.if-wrong_clause.false),
+)
 
 pub returns : goal.returns
 returns c = sym (c.loop-i.invariant.1 ∙ bit_ends _ _ _ _ _ c.loop-i-test.false)

@@ -1,11 +1,9 @@
 -- `system::wrong_bit` meets its contract. The loop's invariant: the whole list answers what it answers from index i on. A wrong clause decides, any other is
 -- passed. The measure is what is left of the length. Assumes nothing.
 use Prim.Native.Nat.{◌≤◌, ◌-◌}
-use mathlib.Core.Path.{◌≡◌, refl, sym, ◌∙◌}
-use native.Mathlib.Omega.{arith}
+use mathlib.Core.Path.{◌≡◌}
 use lib.ListN.{length, drop}
 use Rattle.system.specs.System.{wrong_bit}
-use Rattle.system.proofs.Refusals.{bit_stops, bit_passes, bit_ends}
 use Rattle.system.proofs.wrong_bit.Given as goal
 
 abbrev pub invariant-loop-i : goal.invariant-loop-i

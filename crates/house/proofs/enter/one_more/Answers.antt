@@ -1,6 +1,5 @@
 -- `house::enter::one_more` meets its contract: each return is a case of the definition. Assumes nothing.
 use native.Mathlib.Omega.{arith}
-use borrow.Author.Tests.{not-true, not-false}
 use Rattle.house.proofs.Entering.{more_last, more_full, more_on}
 use Rattle.house.proofs.enter.one_more.Goals as goal
 
