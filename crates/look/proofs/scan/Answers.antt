@@ -1,5 +1,4 @@
 use Prim.Native.Nat.{◌-◌}
-use mathlib.Core.Logic.{⊎_elim}
 use native.Mathlib.Nat.{mul-le-mul_left}
 use native.Mathlib.Omega.{arith}
 use lib.Bits.{and_le_r}
@@ -16,9 +15,6 @@ overflow_mul-from c =
       mul-le-mul_left c.size-size.result (trailing_le 64 c.loop-left.left),
       c.size-size.ensures,
     )
-
-pub scan_part-look-requires : goal.scan_part-look-requires
-scan_part-look-requires c = ⊎_elim (λ w. omega arith) (λ w. omega arith) c.if-size-count.branch
 
 pub returns-in_default : goal.returns-in_default
 returns-in_default c = c.scan_part-look.ensures
