@@ -1,16 +1,9 @@
-use Prim.Native.Nat.{ℕ, ◌≤◌, ◌<◌, ◌-◌}
-use mathlib.Core.Path.{◌≡◌, sym, ◌∙◌}
-use mathlib.Core.Bool.{false}
+use mathlib.Core.Path.{sym, ◌∙◌}
 use native.Mathlib.Omega.{arith}
-use borrow.Author.Count.{below_none, below_more}
-use lib.ListN.{length}
-use Rattle.look.proofs.States.{entry, entry_other, entry_same, excluded_by, excluded_none}
-use borrow.Author.Rules.{rules}
+use borrow.Author.Count.{below_more}
+use Rattle.look.proofs.States.{entry_other, entry_same, excluded_by, excluded_none}
 use Rattle.look.proofs.is_excluded.Goals as goal
 use Rattle.look.proofs.is_excluded.Goals.{then-states-j+else-at_level, else-states-j}
-
-pub loop-j-init : goal.loop-j-init
-loop-j-init c = (search rules, below_none _)
 
 pub returns-then-at_level : goal.returns-then-at_level
 returns-then-at_level c =
