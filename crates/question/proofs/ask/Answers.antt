@@ -19,7 +19,7 @@ pub returns-in_default : goal.returns-in_default
 returns-in_default c =
     rw c.in_default.is
     (asked_here _ _ _ c.loop-at.invariant.1 c.open_bits-k.ensures c.loop-at.invariant.0
-    (rw c.in_default.is at c.type_inv.trail.ensures))
+    (rw c.in_default.is at c.ask_block-answer.ensures))
 
 pub overflow_add-at : goal.overflow_add-at
 overflow_add-at c =
@@ -33,7 +33,7 @@ loop-at-smaller c =
 pub loop-at-preserved : goal.loop-at-preserved
 loop-at-preserved c =
     rw (c.size-at.ensures, block_length c.open_bits-k.ensures)
-    (omega (arith, c.loop-at.invariant.0), asked_on _ _ _ c.loop-at.invariant.1 _ (rw c.in-Nothing.is at c.type_inv.trail.ensures))
+    (omega (arith, c.loop-at.invariant.0), asked_on _ _ _ c.loop-at.invariant.1 _ (rw c.in-Nothing.is at c.ask_block-answer.ensures))
 
 pub returns : goal.returns
 returns c =

@@ -58,7 +58,7 @@ loop-before-preserved c =
 pub returns : goal.returns
 returns c =
     follows_least (rw c.in-At.is at c.rest-r.ensures)
-    (walked_all c.loop-before.invariant.0 (word_fits _ c.ranges.front)
+    (walked_all c.loop-before.invariant.0 (word_fits _ c.ranges.front.fits)
     (omega (
       arith,
       ltb-false 0 (open_of width c.args.front (setting c.loop-before.d.settled)) (sym c.is_open.ensures ∙ c.loop-before-test.false),
