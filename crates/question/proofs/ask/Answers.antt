@@ -1,9 +1,7 @@
-use Prim.Native.Nat.{◌-◌, min, ◌≤◌}
+use Prim.Native.Nat.{min}
 use native.Mathlib.Omega.{arith}
 use lib.Pow.{pow_pos}
-use Rattle.look.specs.Condition.{region}
-use Rattle.question.proofs.Ranges.{Free}
-use Rattle.question.proofs.Blocks.{wider, block_length, passes, asked_here, asked_on, asked_none}
+use Rattle.question.proofs.Blocks.{wider, block_length, asked_here, asked_on, asked_none}
 use Rattle.question.proofs.ask.Goals as goal
 
 pub loop-at-init : goal.loop-at-init

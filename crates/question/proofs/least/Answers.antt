@@ -1,15 +1,12 @@
-use Prim.Native.Nat.{◌-◌}
 use mathlib.Core.Path.{sym, ◌∙◌}
 use native.Mathlib.Omega.{arith}
 use borrow.Author.Tests.{ltb-true, ltb-false}
-use lib.Count.{ones}
-use Rattle.masks.specs.Word.{width, word_of}
+use Rattle.masks.specs.Word.{width}
 use Rattle.masks.proofs.Words.{word_fits}
-use Rattle.look.specs.Condition.{region, fulfils}
+use Rattle.look.specs.Condition.{fulfils}
 use Rattle.look.specs.Look.{setting}
 use Rattle.question.specs.Reason.{open_of}
-use Rattle.question.specs.Engine.{Few, Comes}
-use Rattle.question.proofs.Walk.{Walked, walked_none, walked_more, walked_all}
+use Rattle.question.proofs.Walk.{walked_none, walked_more, walked_all}
 use Rattle.question.proofs.Rest.{follows_fails, follows_least, walked_follows}
 use Rattle.question.proofs.least.Goals as goal
 

@@ -1,6 +1,5 @@
 -- `question::engine::lowest_wire` meets its contract: the lowest bit of a mask that is not 0 is one of its bits. Assumes nothing.
-use Prim.Native.Nat.{◌+◌, ◌*◌, ◌^◌}
-use mathlib.Core.Path.{◌≡◌, refl, sym, ap, ◌∙◌}
+use mathlib.Core.Path.{refl}
 use native.Mathlib.Omega.{arith}
 use lib.Count.{count_trailing_zeros}
 use Rattle.masks.proofs.Ends.{lowest_end}

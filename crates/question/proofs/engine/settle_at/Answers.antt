@@ -1,6 +1,5 @@
 -- `question::engine::settle_at` meets its contract: a bit more among the settled ones, and its value among the values. Assumes nothing.
 use mathlib.Core.Path.{ap₂}
-use Rattle.look.specs.Reason.{Setting}
 use Rattle.question.proofs.engine.settle_at.Goals as goal
 
 pub returns : goal.returns

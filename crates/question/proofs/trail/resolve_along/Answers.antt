@@ -1,8 +1,6 @@
-use Prim.Native.Nat.{◌≤◌}
-use mathlib.Core.Path.{◌≡◌, refl, sym, ap₂, ◌∙◌}
+use mathlib.Core.Path.{◌≡◌, refl, sym, ◌∙◌}
 use native.Mathlib.Omega.{arith}
-use Rattle.masks.specs.Word.{width, word_of}
-use Rattle.question.specs.Reason.{resolved_along}
+use Rattle.masks.specs.Word.{width}
 use Rattle.question.proofs.Along.{along_none, along_last}
 use Rattle.question.proofs.trail.resolve_along.Goals as goal
 
