@@ -10,9 +10,6 @@ use Rattle.question.proofs.engine.lowest_wire.Goals as goal
 pub overflow_shl-result : goal.overflow_shl-result
 overflow_shl-result c = lowest_low 64 _ (λ e. omega (arith, c.requires)) c.ranges.wires.fits
 
-pub overflow_cast-result : goal.overflow_cast-result
-overflow_cast-result c = omega (arith, overflow_shl-result c)
-
 pub returns : goal.returns
 returns c =
     record {
