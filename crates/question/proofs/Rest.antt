@@ -63,7 +63,8 @@ module _ {width : ℕ} {P : ℕ → Bool} {s r : Setting} (F : Follows width P s
       }
 
 -- the walk goes on from what follows
-pub walked_follows : {width : ℕ} {P : ℕ → Bool} {front : ℕ} {s r q : Setting} {w : ℕ} → Walked width P front s r w → Follows width P r q → Walked width P front s q w
+pub walked_follows : {width : ℕ} {P : ℕ → Bool} {front : ℕ} {s r q : Setting} {w : ℕ} → Walked width P front s r w → Follows width P r q
+    → Walked width P front s q w
 walked_follows {width} {P} {r = r} {w = w} W F =
     record {
       stands = record {

@@ -10,7 +10,9 @@ use Rattle.question.proofs.Walk.{Walked}
 use Rattle.question.proofs.least.Given as goal
 
 abbrev pub invariant-loop-before : goal.invariant-loop-before
-invariant-loop-before l = Walked width (fulfils (region l.within l.whole l.levels l.i)) l.front (setting l.initial.d.settled) (setting l.d.settled) (word_of l.d.word) × Few l.d.settled
+invariant-loop-before l =
+    Walked width (fulfils (region l.within l.whole l.levels l.i)) l.front (setting l.initial.d.settled) (setting l.d.settled) (word_of l.d.word)
+    × Few l.d.settled
 
 abbrev pub decreases-loop-before : goal.decreases-loop-before
 decreases-loop-before l = width - ones (word_of l.d.settled.bits)

@@ -27,7 +27,8 @@ returns c =
     let front = c.args.front in
     let s = c.args.s in
     let f = c.ranges.front.fits in
-    rw (no_wire (record { pair = 1 * 2 ^ (63 - count_leading_zeros 64 (bit_and front (2 ^ 64 - 1 - s.bits.pair))) % 2 ^ 64; wires = 0 }) (mod-lt _ (pow_pos 64)) refl)
+    rw (no_wire (record { pair = 1 * 2 ^ (63 - count_leading_zeros 64 (bit_and front (2 ^ 64 - 1 - s.bits.pair))) % 2 ^ 64; wires = 0 })
+    (mod-lt _ (pow_pos 64)) refl)
     (top_wide s.bits (setting s).values front f
     (top_open 63 front (record { bits = s.bits.pair; values = (setting s).values }) f (omega arith)
     (rw (front_open s.bits (setting s).values front f (omega arith)) at c.requires) _ (shift_one 64 _ (omega arith))))
