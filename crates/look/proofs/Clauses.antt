@@ -1,11 +1,8 @@
 -- A clause of four masks is a clause over the 128 positions of a word: its literals at the first 64 are those of the pair's masks, at the others those of the
 -- wires'. Assumes nothing.
-use mathlib.Core.Path.{◌≡◌}
 use mathlib.Core.Logic.{⊎_elim}
-use mathlib.Core.Bool.{false}
-use Prim.Native.Nat.{ℕ, ◌+◌, ◌/◌, ◌%◌, ◌^◌, ◌≤◌, ◌<◌}
+use Prim.Native.Nat.{◌+◌, ◌/◌, ◌%◌, ◌^◌}
 use native.Mathlib.Omega.{arith}
-use Rattle.masks.specs.Bit.{bit}
 use Rattle.masks.specs.Word.{width, word_of}
 use Rattle.masks.proofs.Halves.{bit_mod, bit_div}
 use Rattle.masks.proofs.Somewhere.{or_fails}

@@ -45,8 +45,8 @@ zero_or_power k m none =
     (λ o. inr (bits_at k m (2 ^ k) (omega (arith, pow_here k)) (λ j f. omega (arith, none j f, pow_other k j f))))
     (bit_cases m k)
 
-module _ (width : ℕ) (P : ℕ → Bool) (ones zeros : ℕ) (L : Clausal width P ones zeros) (s : Setting) (p : ones < 2 ^ width) (q : zeros < 2 ^ width) (fs : s.bits < 2 ^ width)
-    (no_ones : bit_and ones s.values ≡ 0) (no_zeros : bit_and zeros s.values ≡ bit_and zeros s.bits) where
+module _ (width : ℕ) (P : ℕ → Bool) (ones zeros : ℕ) (L : Clausal width P ones zeros) (s : Setting) (p : ones < 2 ^ width) (q : zeros < 2 ^ width)
+    (fs : s.bits < 2 ^ width) (no_ones : bit_and ones s.values ≡ 0) (no_zeros : bit_and zeros s.values ≡ bit_and zeros s.bits) where
   -- the open bits that are wanted 1
   abbrev want_1 : ℕ
   want_1 = bit_and ones (2 ^ width - 1 - s.bits)

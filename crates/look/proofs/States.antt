@@ -20,7 +20,6 @@ use Rattle.masks.proofs.Bits.{bit_le, bit_of_zero, bit_past, at_bit, bits_below}
 use Rattle.masks.proofs.Operations.{flip, full}
 use Rattle.masks.proofs.Halves.{bit_mod}
 use Rattle.masks.proofs.Somewhere.{somewhere_false}
-use Rattle.masks.specs.Word.{word_of}
 use Rattle.masks.proofs.Words.{low_width, first_word}
 use Rattle.system.specs.declared.Clause.{Clause}
 use Rattle.look.specs.Excluded.{excluded}

@@ -5,7 +5,6 @@ use mathlib.Core.Bool.{Bool, true, false}
 use mathlib.Core.Logic.{inl, inr, ⊎_elim}
 use mathlib.Core.Path.{◌≡◌}
 use native.Mathlib.Omega.{arith}
-use lib.Bits.{bit_or}
 use Rattle.base.proofs.Tests.{test, clash}
 use Rattle.masks.specs.Bit.{bit}
 use Rattle.masks.proofs.Bits.{bit_le}
@@ -64,7 +63,8 @@ module _ {width : ℕ} {P : ℕ → Bool} {s r : Setting} (F : Follows width P s
       }
 
 -- the walk goes on from what follows
-pub walked_follows : {width : ℕ} {P : ℕ → Bool} {front : ℕ} {s r q : Setting} {w : ℕ} → Walked width P front s r w → Follows width P r q → Walked width P front s q w
+pub walked_follows : {width : ℕ} {P : ℕ → Bool} {front : ℕ} {s r q : Setting} {w : ℕ} → Walked width P front s r w → Follows width P r q
+    → Walked width P front s q w
 walked_follows {width} {P} {r = r} {w = w} W F =
     record {
       stands = record {

@@ -2,7 +2,7 @@
 -- open, wanted by one of the masks alone, it is forced. Assumes nothing.
 use mathlib.Core.Path.{sym, ap₂, ◌∙◌}
 use lib.Bits.{bit_or}
-use borrow.Author.Tests.{eqb-true, eqb-false, not-false}
+use borrow.Author.Tests.{eqb-true, eqb-false}
 use Rattle.masks.specs.Word.{width}
 use Rattle.masks.proofs.Words.{word_lt}
 use Rattle.look.specs.Look.{setting}
@@ -14,9 +14,9 @@ pub returns-then-is_empty : goal.returns-then-is_empty
 returns-then-is_empty c =
     let a = c.args in
     let no_zeros = sym c.and.ensures
-    ∙ eqb-true _ _ (sym c.same.ensures ∙ not-false _ c.if-not-same.false)
+    ∙ eqb-true _ _ (sym c.same.ensures ∙ c.if-not-same.false)
     ∙ c.and-2.ensures in
-    let no_ones = sym c.and-3.ensures ∙ eqb-true _ _ (sym c.is_empty.ensures ∙ not-false _ c.if-not-is_empty.false) in
+    let no_ones = sym c.and-3.ensures ∙ eqb-true _ _ (sym c.is_empty.ensures ∙ c.if-not-is_empty.false) in
     rw c.or-reason.ensures
     (clause_fails width _ _ _ (clause_of_lem a.c) (setting a.s)
     (word_lt a.c.ones)
@@ -29,12 +29,12 @@ returns-then-is_empty c =
 
 pub returns : goal.returns
 returns c =
-    let one = c.is_single.ensures.0 (not-false _ c.if-not-is_single.false) in
+    let one = c.is_single.ensures.0 c.if-not-is_single.false in
     let a = c.args in
     let no_zeros = sym c.and.ensures
-    ∙ eqb-true _ _ (sym c.same.ensures ∙ not-false _ c.if-not-same.false)
+    ∙ eqb-true _ _ (sym c.same.ensures ∙ c.if-not-same.false)
     ∙ c.and-2.ensures in
-    let no_ones = sym c.and-3.ensures ∙ eqb-true _ _ (sym c.is_empty.ensures ∙ not-false _ c.if-not-is_empty.false) in
+    let no_ones = sym c.and-3.ensures ∙ eqb-true _ _ (sym c.is_empty.ensures ∙ c.if-not-is_empty.false) in
     rw (c.or-reason.ensures, c.or-open.ensures, c.without-want_1.ensures, c.without-want_0.ensures)
     (clause_forces width _ _ _ (clause_of_lem a.c) (setting a.s)
     (word_lt a.c.ones)

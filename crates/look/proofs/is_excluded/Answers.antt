@@ -1,16 +1,9 @@
-use Prim.Native.Nat.{ℕ, ◌≤◌, ◌<◌, ◌-◌}
-use mathlib.Core.Path.{◌≡◌, sym, ◌∙◌}
-use mathlib.Core.Bool.{false}
-use mathlib.Core.Logic.{⊎_elim}
+use mathlib.Core.Path.{sym, ◌∙◌}
 use native.Mathlib.Omega.{arith}
-use borrow.Author.Count.{below_none, below_more}
-use lib.ListN.{length}
-use Rattle.look.proofs.States.{entry, entry_other, entry_same, excluded_by, excluded_none}
-use borrow.Author.Rules.{rules}
+use borrow.Author.Count.{below_more}
+use Rattle.look.proofs.States.{entry_other, entry_same, excluded_by, excluded_none}
 use Rattle.look.proofs.is_excluded.Goals as goal
-
-pub loop-j-init : goal.loop-j-init
-loop-j-init c = (search rules, below_none _)
+use Rattle.look.proofs.is_excluded.Goals.{then-states-j+else-at_level, else-states-j}
 
 pub returns-then-at_level : goal.returns-then-at_level
 returns-then-at_level c =
@@ -21,10 +14,10 @@ pub loop-j-preserved : goal.loop-j-preserved
 loop-j-preserved c = (
   omega arith,
   below_more _ _ c.loop-j.invariant.1
-      (⊎_elim
-      (λ w. entry_same _ _ _ _ _ w.0.taken ∙ sym w.1.ensures ∙ w.2.left)
-      (λ w. entry_other _ _ _ _ _ w.left)
-      c.if-states-j.branch),
+      (elim c.if-states-j.branch [
+        then-states-j+else-at_level w ↦ entry_same _ _ _ _ _ w.if-states-j.true ∙ sym w.at_level.ensures ∙ w.if-at_level.false
+        | else-states-j w ↦ entry_other _ _ _ _ _ w.if-states-j.false
+      ]),
 )
 
 pub returns : goal.returns

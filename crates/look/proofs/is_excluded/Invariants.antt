@@ -1,13 +1,10 @@
 -- `look::is_excluded` meets its contract. The loop's invariant: no entry below j excludes s. An entry that is s with a level of i or more
 -- decides, any other is passed, and at the end none is left. The measure is what is left of the length. Assumes nothing.
 use Prim.Native.Nat.{ℕ, ◌≤◌, ◌<◌, ◌-◌}
-use mathlib.Core.Path.{◌≡◌, sym, ◌∙◌}
+use mathlib.Core.Path.{◌≡◌}
 use mathlib.Core.Bool.{false}
-use mathlib.Core.Logic.{⊎_elim}
-use native.Mathlib.Omega.{arith}
-use borrow.Author.Count.{below_none, below_more}
 use lib.ListN.{length}
-use Rattle.look.proofs.States.{entry, entry_other, entry_same, excluded_by, excluded_none}
+use Rattle.look.proofs.States.{entry}
 use Rattle.look.proofs.is_excluded.Given as goal
 
 abbrev pub invariant-loop-j : goal.invariant-loop-j

@@ -1,11 +1,5 @@
 -- `look::scan` meets its contract. What a block says, the list says; blocks that say nothing say nothing together, so the loop keeps nothing. The measure
 -- is what is left of the mask of blocks. Assumes nothing.
-use Prim.Native.Nat.{◌-◌}
-use mathlib.Core.Logic.{⊎_elim}
-use native.Mathlib.Nat.{mul-le-mul_left}
-use native.Mathlib.Omega.{arith}
-use lib.Bits.{and_le_r}
-use lib.Count.{trailing_le}
 use Rattle.look.proofs.scan.Given as goal
 
 abbrev pub invariant-loop-left : goal.invariant-loop-left

@@ -1,4 +1,3 @@
-use Prim.Native.Nat.{◌-◌}
 use native.Mathlib.Omega.{arith}
 use Rattle.look.proofs.Lists.{list_scanned}
 use Rattle.look.proofs.scan_part.Goals as goal

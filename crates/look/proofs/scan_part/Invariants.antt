@@ -1,8 +1,6 @@
 -- `look::scan_part` meets its contract. What a clause says, the list says; clauses that say nothing say nothing together, so the loop keeps nothing. The
 -- measure is how many clauses are left. Assumes nothing.
 use Prim.Native.Nat.{◌-◌}
-use native.Mathlib.Omega.{arith}
-use Rattle.look.proofs.Lists.{list_scanned}
 use Rattle.look.proofs.scan_part.Given as goal
 
 abbrev pub invariant-loop-j : goal.invariant-loop-j

@@ -1,7 +1,5 @@
-use Prim.Native.Nat.{◌≤◌, ◌-◌}
 use mathlib.Core.Path.{sym, ◌∙◌}
 use native.Mathlib.Omega.{arith}
-use lib.ListN.{length}
 use Rattle.masks.proofs.Words.{first_word}
 use Rattle.look.proofs.States.{entry_scanned, state_settled}
 use Rattle.look.proofs.scan_states.Goals as goal

@@ -1,11 +1,7 @@
 -- `look::scan_states` meets its contract. Whatever `clause` says of an entry's clause, the store says; where it says nothing the loop goes
 -- on, so its invariant is only that j is within the length. The measure is what is left of the length. Assumes nothing.
 use Prim.Native.Nat.{◌≤◌, ◌-◌}
-use mathlib.Core.Path.{sym, ◌∙◌}
-use native.Mathlib.Omega.{arith}
 use lib.ListN.{length}
-use Rattle.masks.proofs.Words.{first_word}
-use Rattle.look.proofs.States.{entry_scanned, state_settled}
 use Rattle.look.proofs.scan_states.Given as goal
 
 abbrev pub invariant-loop-j : goal.invariant-loop-j

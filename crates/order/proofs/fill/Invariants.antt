@@ -1,7 +1,5 @@
 -- `order::fill` is safe and ends: the blocks are numbered below 64. The measure is how many clauses are left. Assumes nothing.
 use Prim.Native.Nat.{◌-◌}
-use native.Mathlib.Nat.{div-lt_iff_lt-mul}
-use native.Mathlib.Omega.{arith}
 use Rattle.order.proofs.fill.Given as goal
 
 abbrev pub invariant-loop-j : goal.invariant-loop-j

@@ -1,7 +1,4 @@
 -- `order::mark` is safe and ends. The measure is what is left of the mask. Assumes nothing.
-use Prim.Native.Nat.{◌-◌}
-use native.Mathlib.Omega.{arith}
-use lib.Bits.{and_le_r}
 use Rattle.order.proofs.mark.Given as goal
 
 abbrev pub invariant-loop-left : goal.invariant-loop-left

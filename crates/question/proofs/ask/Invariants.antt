@@ -1,11 +1,9 @@
 -- `question::ask` meets its contract. The loop's invariant: no state from `from` on and below `at` fulfils the condition. The measure is what is left
 -- below the end. Assumes nothing.
-use Prim.Native.Nat.{◌-◌, min, ◌≤◌}
-use native.Mathlib.Omega.{arith}
-use lib.Pow.{pow_pos}
+use Prim.Native.Nat.{◌-◌, ◌≤◌}
 use Rattle.look.specs.Condition.{region}
 use Rattle.question.proofs.Ranges.{Free}
-use Rattle.question.proofs.Blocks.{wider, block_length, passes, asked_here, asked_on, asked_none}
+use Rattle.question.proofs.Blocks.{passes}
 use Rattle.question.proofs.ask.Given as goal
 
 abbrev pub invariant-loop-at : goal.invariant-loop-at

@@ -1,18 +1,10 @@
 -- `question::ask_block` meets its contract: the state of a word whose front is least is the least state of the block. Assumes nothing.
 use Prim.Native.Nat.{◌%◌, ◌^◌}
 use native.Mathlib.Nat.{mod-lt}
-use native.Mathlib.Omega.{arith}
 use lib.Pow.{pow_pos}
 use Rattle.question.specs.declared.engine.Found.TheVariants.{Word, Nothing}
 use Rattle.question.proofs.Blocks.{block_length, block_sound, block_few, block_asked}
 use Rattle.question.proofs.ask_block.Goals as goal
-
-pub overflow_mul-s : goal.overflow_mul-s
-overflow_mul-s c = omega (arith, mod-lt c.args.later (pow_pos 32))
-
-pub overflow_add-s : goal.overflow_add-s
-overflow_add-s c =
-    omega (arith, mod-lt c.args.later (pow_pos 32), c.requires.ends, pow_pos c.args.k)
 
 pub least-f-requires : goal.least-f-requires
 least-f-requires c =

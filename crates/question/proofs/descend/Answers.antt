@@ -4,7 +4,7 @@ use mathlib.Core.Path.{sym, ap, ◌∙◌}
 use native.Mathlib.Omega.{arith}
 use lib.Count.{ones}
 use borrow.Author.Tests.{eqb-true, eqb-false}
-use Rattle.masks.specs.Word.{width, word_of}
+use Rattle.masks.specs.Word.{word_of}
 use Rattle.masks.proofs.Words.{zero_word}
 use Rattle.look.specs.Reason.{Setting, more}
 use Rattle.look.specs.Look.{setting}

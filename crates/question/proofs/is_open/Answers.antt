@@ -9,4 +9,4 @@ use Rattle.question.proofs.is_open.Goals as goal
 pub returns : goal.returns
 returns c =
     let s = c.args.d.settled in
-    ap (ltb 0) (sym (front_open s.bits (setting s).values c.args.front c.ranges.front (omega arith)))
+    ap (ltb 0) (sym (front_open s.bits (setting s).values c.args.front c.ranges.front.fits (omega arith)))

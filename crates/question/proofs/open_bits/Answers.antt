@@ -1,5 +1,4 @@
 -- `question::open_bits` meets its contract. Assumes nothing.
-use mathlib.Core.Path.{◌∙◌}
 use Rattle.question.proofs.Blocks.{next_block}
 use Rattle.question.proofs.open_bits.Goals as goal
 

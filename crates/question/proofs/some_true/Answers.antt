@@ -1,15 +1,9 @@
 -- `question::some_true` meets its contract: a block of one state has an answer exactly if some setting of the wires makes the list true. Assumes nothing.
 use native.Mathlib.Nat.{mod-lt}
-use native.Mathlib.Omega.{arith}
 use mathlib.Core.Option.{none, some}
 use lib.Pow.{pow_pos}
 use Rattle.question.proofs.Conditions.{some_asked}
 use Rattle.question.proofs.some_true.Goals as goal
-
-pub ask_block-answer-requires : goal.ask_block-answer-requires
-ask_block-answer-requires c =
-    let s = c.args.s in
-    record { whole = omega arith; low = omega arith; ends = omega (arith, mod-lt s (pow_pos 32)) }
 
 pub returns-in-State : goal.returns-in-State
 returns-in-State c =

@@ -1,17 +1,11 @@
 -- `question::engine::pick` meets its contract: a wire that is not settled is open, and so is a bit of the pair; if all of the pair is settled, some wire
 -- is not. Assumes nothing.
 use Prim.Native.Nat.{◌-◌, ◌^◌}
-use mathlib.Core.Path.{◌≡◌}
-use native.Mathlib.Nat.{pos_of_ne-zero}
 use native.Mathlib.Omega.{arith}
-use lib.Bits.{and_self}
 use Rattle.masks.proofs.Operations.{meet, flip}
 use Rattle.look.specs.Look.{setting}
 use Rattle.question.proofs.Wide.{wire_open, pair_open}
 use Rattle.question.proofs.engine.pick.Goals as goal
-
-pub lowest_wire-requires : goal.lowest_wire-requires
-lowest_wire-requires c = pos_of_ne-zero c.if-near-ne0.true
 
 pub returns-then-near-ne0 : goal.returns-then-near-ne0
 returns-then-near-ne0 c =
@@ -22,17 +16,6 @@ returns-then-near-ne0 c =
 pub top_open-requires : goal.top_open-requires
 top_open-requires c =
     pair_open c.args.s.bits (setting c.args.s).values (omega arith) c.if-bits.true
-
-pub returns-then-bits : goal.returns-then-bits
-returns-then-bits c = c.top_open.ensures.free
-
-pub lowest_wire-requires-2 : goal.lowest_wire-requires-2
-lowest_wire-requires-2 c =
-    let bits = c.args.s.bits in
-    pos_of_ne-zero (λ z.
-    let p : bits.pair ≡ 2 ^ 64 - 1 = c.if-bits.false in
-    let w : bits.wires ≡ 2 ^ 64 - 1 = omega arith in
-    c.requires (rw (p, w) (and_self (2 ^ 64 - 1))))
 
 pub returns : goal.returns
 returns c =

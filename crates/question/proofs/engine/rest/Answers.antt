@@ -1,22 +1,11 @@
-use Prim.Native.Nat.{◌-◌}
 use mathlib.Core.Path.{ap}
 use native.Mathlib.Omega.{arith}
 use lib.Count.{ones}
-use Rattle.masks.specs.Word.{width, word_of}
-use Rattle.look.specs.Condition.{region, fulfils}
-use Rattle.look.specs.Look.{setting}
 use Rattle.look.specs.Reason.{Setting}
-use Rattle.question.specs.Engine.{Comes}
 use Rattle.question.proofs.More.{more_falls}
-use Rattle.question.proofs.Rest.{follows_none, follows_more, follows_fails}
+use Rattle.question.proofs.Rest.{follows_more, follows_fails}
 use Rattle.question.proofs.Solving.{forced}
 use Rattle.question.proofs.engine.rest.Goals as goal
-
-pub loop-bit-init : goal.loop-bit-init
-loop-bit-init c = follows_none c.requires
-
-pub returns-in-Rest : goal.returns-in-Rest
-returns-in-Rest c = c.loop-bit.invariant
 
 pub returns-in-Failed : goal.returns-in-Failed
 returns-in-Failed c =

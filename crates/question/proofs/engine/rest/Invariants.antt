@@ -1,17 +1,10 @@
 -- `question::engine::rest` meets its contract. The loop's invariant is that what is settled follows from what was given; its measure is the number of open
 -- bits. Assumes nothing.
 use Prim.Native.Nat.{◌-◌}
-use mathlib.Core.Path.{ap}
-use native.Mathlib.Omega.{arith}
 use lib.Count.{ones}
 use Rattle.masks.specs.Word.{width, word_of}
 use Rattle.look.specs.Condition.{region, fulfils}
-use Rattle.look.specs.Look.{setting}
-use Rattle.look.specs.Reason.{Setting}
 use Rattle.question.specs.Engine.{Comes}
-use Rattle.question.proofs.More.{more_falls}
-use Rattle.question.proofs.Rest.{follows_none, follows_more, follows_fails}
-use Rattle.question.proofs.Solving.{forced}
 use Rattle.question.proofs.engine.rest.Given as goal
 
 abbrev pub invariant-loop-bit : goal.invariant-loop-bit

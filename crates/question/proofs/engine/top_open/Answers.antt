@@ -18,7 +18,7 @@ pub overflow_sub-result : goal.overflow_sub-result
 overflow_sub-result c =
     let front = c.args.front in
     let s = c.args.s in
-    let f = c.ranges.front in
+    let f = c.ranges.front.fits in
     zeros_below 63 front (record { bits = s.bits.pair; values = (setting s).values }) f (omega arith)
     (rw (front_open s.bits (setting s).values front f (omega arith)) at c.requires)
 
@@ -26,8 +26,9 @@ pub returns : goal.returns
 returns c =
     let front = c.args.front in
     let s = c.args.s in
-    let f = c.ranges.front in
-    rw (no_wire (record { pair = 1 * 2 ^ (63 - count_leading_zeros 64 (bit_and front (2 ^ 64 - 1 - s.bits.pair))) % 2 ^ 64; wires = 0 }) (mod-lt _ (pow_pos 64)) refl)
+    let f = c.ranges.front.fits in
+    rw (no_wire (record { pair = 1 * 2 ^ (63 - count_leading_zeros 64 (bit_and front (2 ^ 64 - 1 - s.bits.pair))) % 2 ^ 64; wires = 0 })
+    (mod-lt _ (pow_pos 64)) refl)
     (top_wide s.bits (setting s).values front f
     (top_open 63 front (record { bits = s.bits.pair; values = (setting s).values }) f (omega arith)
     (rw (front_open s.bits (setting s).values front f (omega arith)) at c.requires) _ (shift_one 64 _ (omega arith))))

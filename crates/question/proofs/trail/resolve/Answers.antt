@@ -1,10 +1,9 @@
 -- `question::trail::resolve` meets its contract: it tests what the definition tests. Assumes nothing.
 use mathlib.Core.Path.{sym, ap, ◌∙◌}
-use Prim.Native.Nat.{ℕ, ◌-◌, ◌^◌}
+use Prim.Native.Nat.{◌-◌, ◌^◌}
 use lib.Bits.{bit_and}
 use lib.Dec.{eqb}
 use Rattle.masks.specs.Word.{width, word_of}
-use Rattle.question.specs.Reason.{resolved}
 use Rattle.question.proofs.Resolution.{resolved_first, resolved_both}
 use Rattle.question.proofs.trail.resolve.Goals as goal
 

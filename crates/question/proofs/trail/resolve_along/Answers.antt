@@ -1,13 +1,8 @@
-use Prim.Native.Nat.{◌≤◌}
-use mathlib.Core.Path.{◌≡◌, refl, sym, ap₂, ◌∙◌}
+use mathlib.Core.Path.{◌≡◌, sym, ◌∙◌}
 use native.Mathlib.Omega.{arith}
-use Rattle.masks.specs.Word.{width, word_of}
-use Rattle.question.specs.Reason.{resolved_along}
+use Rattle.masks.specs.Word.{width}
 use Rattle.question.proofs.Along.{along_none, along_last}
 use Rattle.question.proofs.trail.resolve_along.Goals as goal
-
-pub loop-left-init : goal.loop-left-init
-loop-left-init c = (omega arith, refl)
 
 pub loop-left-preserved : goal.loop-left-preserved
 loop-left-preserved c =

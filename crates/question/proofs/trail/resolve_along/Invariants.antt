@@ -1,11 +1,9 @@
 -- `question::trail::resolve_along` meets its contract. The loop's invariant is that the entries that are left make of the reason in hand what all of
 -- them make of the reason that was given. The measure is what is left. Assumes nothing.
 use Prim.Native.Nat.{◌≤◌}
-use mathlib.Core.Path.{◌≡◌, refl, sym, ap₂, ◌∙◌}
-use native.Mathlib.Omega.{arith}
+use mathlib.Core.Path.{◌≡◌}
 use Rattle.masks.specs.Word.{width, word_of}
 use Rattle.question.specs.Reason.{resolved_along}
-use Rattle.question.proofs.Along.{along_none, along_last}
 use Rattle.question.proofs.trail.resolve_along.Given as goal
 
 abbrev pub invariant-loop-left : goal.invariant-loop-left

@@ -1,0 +1,124 @@
+use Prim.Native.Nat.{◌+◌, ◌*◌, ◌≤◌}
+use mathlib.Core.Path.{sym, ap, ◌∙◌}
+use native.Mathlib.Omega.{arith}
+use borrow.Author.Rules.{rules}
+use borrow.Author.Tests.{eqb-true}
+use lib.Count.{ones}
+use lib.ListN.{length}
+use Rattle.masks.specs.Word.{width, word_of}
+use Rattle.masks.proofs.Words.{full_word, zero_word}
+use Rattle.look.specs.Condition.{lent, fulfils}
+use Rattle.look.specs.Look.{setting}
+use Rattle.look.specs.Reason.{Forces, Setting, more}
+use Rattle.question.proofs.More.{more_sound, more_falls}
+use Rattle.question.proofs.Solving.{more_passes, forced, at_zero, zero_enough, refuted}
+use Rattle.question.proofs.Along.{Led, led_none, led_few, led_within, led_lent, led_next, led_more}
+use Rattle.question.proofs.engine.+attempt_settle.Goals as goal
+use Rattle.question.proofs.engine.+attempt_settle.Goals.{settle-in-Failed, settle-in-Forced, settle-in-Rest+then-bits, settle-in-Rest+else-bits}
+
+-- no more entries than 128
+few : width ≤ 128
+unfolding width
+few = omega arith
+
+-- ---- `attempt`
+pub attempt-settle-f-requires : goal.attempt-settle-f-requires
+attempt-settle-f-requires t c =
+    let b = c.requires.begins in
+    let zero = at_zero b.valid c.pick-bit.ensures in
+    let f = more_falls zero b.valid in
+    let e = c.settle_at.ensures ∙ ap (more (setting c.args.s) (word_of c.pick-bit.result)) zero_word in
+    let n = ap (λ (t : Setting). ones t.bits) e in (
+      omega (arith, n, f.one, f.most, c.decreases),
+      record { valid = rw e (more_sound zero b.valid); long = omega (arith, n, f.one, b.long) },
+    )
+
+pub attempt-returns-then-is_empty : goal.attempt-returns-then-is_empty
+attempt-returns-then-is_empty t c =
+    let e = c.settle_at.ensures ∙ ap (more (setting c.args.s) (word_of c.pick-bit.result)) zero_word in
+    zero_enough c.requires.begins.valid c.pick-bit.ensures (fulfils _) _ (rw e at c.in-Nothing.ensures)
+    (sym c.and.ensures ∙ eqb-true _ _ (sym c.is_empty.ensures ∙ c.if-is_empty.true))
+
+pub attempt-returns-in-Word : goal.attempt-returns-in-Word
+attempt-returns-in-Word t c =
+    let e = c.settle_at.ensures ∙ ap (more (setting c.args.s) (word_of c.pick-bit.result)) zero_word in
+    more_passes (at_zero c.requires.begins.valid c.pick-bit.ensures) (fulfils _) _ (rw e at c.in-Word.ensures)
+
+pub attempt-returns-else-is_empty : goal.attempt-returns-else-is_empty
+attempt-returns-else-is_empty t c =
+    let e = c.settle_at.ensures ∙ ap (more (setting c.args.s) (word_of c.pick-bit.result)) zero_word in
+    refuted c.requires.begins.valid c.pick-bit.ensures (rw e at c.in-Nothing.ensures)
+
+-- ---- `settle`
+pub settle-loop-reason-init : goal.settle-loop-reason-init
+settle-loop-reason-init t c = led_none c.requires.valid
+
+pub settle-test-requires : goal.settle-test-requires
+settle-test-requires t c = record { valid = c.loop-reason.invariant.sound; all = full_word c.loop-reason.r.bits c.if-bits.true }
+
+pub settle-overflow_mul-noted : goal.settle-overflow_mul-noted
+settle-overflow_mul-noted t c = omega (arith, few, led_few c.loop-reason.invariant)
+
+pub settle-offset_bounds-trail-noted : goal.settle-offset_bounds-trail-noted
+settle-offset_bounds-trail-noted t c = omega (arith, few, led_few c.loop-reason.invariant)
+
+pub settle-slice_bounds-attempt-count : goal.settle-slice_bounds-attempt-count
+settle-slice_bounds-attempt-count t c = led_within c.loop-reason.invariant (omega arith)
+
+pub settle-slice_bounds-attempt-start : goal.settle-slice_bounds-attempt-start
+settle-slice_bounds-attempt-start t c =
+    let within : 4 * c.loop-reason.noted ≤ length c.loop-reason.trail = led_within c.loop-reason.invariant (omega arith) in
+    omega arith
+
+pub settle-resolve_along-requires : goal.settle-resolve_along-requires
+settle-resolve_along-requires t c =
+    let within : 4 * c.loop-reason.noted ≤ length c.loop-reason.trail = led_within c.loop-reason.invariant (omega arith) in
+    omega arith
+
+pub settle-returns-in-Failed-said : goal.settle-returns-in-Failed-said
+settle-returns-in-Failed-said t c =
+    let P = fulfils (lent c.args.within c.args.whole c.args.levels c.args.i) in
+    let L = c.loop-reason.invariant in
+    let leads : Led width P (setting c.args.s) c.match-look.trail c.loop-reason.noted (setting c.loop-reason.r) =
+    elim c.match-look.branch [
+      settle-in-Failed w ↦ rw w.trail-is L
+      | settle-in-Forced w ↦ rw w.trail-is L
+      | settle-in-Rest+then-bits w ↦ rw w.trail-is L
+      | settle-in-Rest+else-bits w ↦ rw w.trail-is (led_lent L _ (led_within L (omega arith)))
+    ] in
+    rw c.resolve_along.ensures (leads.reasons _ (search rules))
+
+pub settle-note-requires : goal.settle-note-requires
+settle-note-requires t c =
+    let P = fulfils (lent c.args.within c.args.whole c.args.levels c.args.i) in
+    let q = c.in-Forced-said in
+    let F : Forces width P (setting c.loop-reason.r) (word_of q.reason) (word_of q.bit) (word_of q.value) = search rules in
+    let next : 4 * c.loop-reason.noted + 4 ≤ length c.loop-reason.trail = led_next c.loop-reason.invariant _ _ F (omega arith) in
+    omega arith
+
+pub settle-overflow_add-noted : goal.settle-overflow_add-noted
+settle-overflow_add-noted t c = omega (arith, few, led_few c.loop-reason.invariant)
+
+pub settle-loop-reason-smaller : goal.settle-loop-reason-smaller
+settle-loop-reason-smaller t c =
+    let P = fulfils (lent c.args.within c.args.whole c.args.levels c.args.i) in
+    let q = c.in-Forced-said in
+    let F : Forces width P (setting c.loop-reason.r) (word_of q.reason) (word_of q.bit) (word_of q.value) = search rules in
+    let ok = c.loop-reason.invariant.sound in
+    let f = more_falls (forced ok F) ok in
+    omega (arith, ap (λ (t : Setting). ones t.bits) c.settle_at-r.ensures, f.one, f.most)
+
+pub settle-loop-reason-preserved : goal.settle-loop-reason-preserved
+settle-loop-reason-preserved t c =
+    let P = fulfils (lent c.args.within c.args.whole c.args.levels c.args.i) in
+    let q = c.in-Forced-said in
+    let F : Forces width P (setting c.loop-reason.r) (word_of q.reason) (word_of q.bit) (word_of q.value) = search rules in
+    let L = c.loop-reason.invariant in
+    let leads : Led width P (setting c.args.s) c.match-look.trail c.loop-reason.noted (setting c.loop-reason.r) =
+    elim c.match-look.branch [
+      settle-in-Failed w ↦ rw w.trail-is L
+      | settle-in-Forced w ↦ rw w.trail-is L
+      | settle-in-Rest+then-bits w ↦ rw w.trail-is L
+      | settle-in-Rest+else-bits w ↦ rw w.trail-is (led_lent L _ (led_within L (omega arith)))
+    ] in
+    rw (c.settle_at-r.ensures, c.note.ensures) (led_more leads _ _ F (led_next leads _ _ F (omega arith)))
