@@ -8,9 +8,9 @@ use Rattle.base.proofs.Tests.{test}
 use Rattle.search.specs.Inner.{Absent}
 use Rattle.search.proofs.store.last_at.Given as goal
 
-record Behind (levels : List ℕ) (j i k : ℕ) : Type 0 where
-  within : k ≤ j
-  absent : Absent levels k j i
+pub record Behind (levels : List ℕ) (j i k : ℕ) : Type 0 where
+  pub within : k ≤ j
+  pub absent : Absent levels k j i
 
 abbrev pub invariant-loop-k : goal.invariant-loop-k
 invariant-loop-k l = Behind l.levels l.j l.i l.k
