@@ -21,4 +21,5 @@ pub returns : goal.returns
 returns c =
     let a = c.args in
     let y = system_of a.f.n a.f.w a.start.now a.step.now a.bad.now in
-    rw (first_searches y c.requires (omega arith) _ (rw c.in-State.is at c.start_state-answer.ensures)) at c.all_turns.ensures
+    let leave : 1 ≤ a.allowance = omega arith in
+    rw (first_searches y c.requires leave _ (rw c.in-State.is at c.start_state-answer.ensures)) at c.all_turns.ensures
