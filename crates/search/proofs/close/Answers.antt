@@ -1,27 +1,10 @@
 -- `search::close` meets its contract: each end says what is to stay of the states, which `keep` brings to the front after safe, and of the path; and
 -- `finish` clears the rest. Assumes nothing.
-use Prim.Native.Nat.{◌≤◌}
 use native.Mathlib.Omega.{arith}
-use lib.ListN.{length}
-use Rattle.call.specs.Call.{ended}
 use Rattle.call.specs.Promise.{stores}
 use Rattle.search.proofs.Closing.{Closable, closes_safe, closes_unsafe, closes_given_up}
-use borrow.Author.Rules.{rules}
 use Rattle.search.proofs.close.Goals as goal
 use Rattle.search.proofs.close.Goals.{in-Safe, in-Unsafe, in-GaveUp}
-
-pub keep-front-requires : goal.keep-front-requires
-keep-front-requires c =
-    let b = rw c.in-Safe.is at c.requires.counted in
-    record { same = c.requires.same; within = rw c.requires.same at b }
-
-pub finish-requires : goal.finish-requires
-finish-requires c =
-    elim c.match-verdict.branch [
-      in-Safe w ↦ record { states = omega (arith, rw w.in-Safe.is at c.requires.counted); path = omega arith }
-    | in-Unsafe w ↦ record { states = omega arith; path = omega (arith, rw w.in-Unsafe.is at c.requires.counted) }
-    | in-GaveUp w ↦ record { states = omega arith; path = omega arith }
-    ]
 
 pub returns : goal.returns
 returns c =

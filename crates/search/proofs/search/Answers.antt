@@ -6,7 +6,7 @@ use mathlib.Core.Path.{◌≡◌, sym, ◌∙◌}
 use Rattle.system.specs.System.{System, refusal_of}
 use Rattle.call.specs.Call.{Stores, wrong_stores, refused}
 use Rattle.call.proofs.Call.{refused_stores}
-use Rattle.search.proofs.Promising.{system_promised, stores_promised, lends, ends_closing, searched_promised}
+use Rattle.search.proofs.Promising.{system_promised, stores_promised, lends, searched_promised}
 use Rattle.search.proofs.search.Goals as goal
 
 -- behind both tests nothing is refused
@@ -22,9 +22,6 @@ returns-then-wrong_stores c = stores_promised _ _ _ (cc) (cc)
 pub searched-ending-requires : goal.searched-ending-requires
 searched-ending-requires c =
     lends _ _ (accepted _ _ c.refusal-refusal.ensures c.if-refusal-ne0.false c.wrong_stores.ensures c.if-wrong_stores.false)
-
-pub close-requires : goal.close-requires
-close-requires c = ends_closing c.searched-ending.ensures
 
 pub returns : goal.returns
 returns c =

@@ -3,8 +3,7 @@
 -- The measures are the levels and the entries left. Assumes nothing.
 use Prim.Native.Nat.{ℕ, ◌≤◌, ◌-◌}
 use mathlib.Core.List.{List}
-use native.Mathlib.Omega.{arith}
-use Rattle.search.proofs.Walks.{Passed, passed_none, passed_more, AllTaken, taken_none, taken_more}
+use Rattle.search.proofs.Walks.{Passed, AllTaken}
 use Rattle.search.proofs.store.gap.Given as goal
 
 pub record Climbs (levels : List ℕ) (count N i : ℕ) : Type 0 where

@@ -1,5 +1,5 @@
 use native.Mathlib.Omega.{arith}
-use Rattle.search.proofs.Fronts.{Fronted, fronted_none, fronted_kept, fronted_passed, fronted_all}
+use Rattle.search.proofs.Fronts.{fronted_none, fronted_kept, fronted_passed, fronted_all}
 use Rattle.search.proofs.store.keep.Goals as goal
 use Rattle.search.proofs.store.keep.Goals.{then-i-levels, else-i-levels}
 
@@ -14,9 +14,6 @@ loop-j-preserved c =
       then-i-levels w ↦ rw (w.states-is, w.kept-is) (fronted_kept _ _ _ _ _ _ _ l.invariant h c.requires.within w.if-i-levels.true)
     | else-i-levels w ↦ rw (w.states-is, w.kept-is) (fronted_passed _ _ _ _ _ _ _ l.invariant h w.if-i-levels.false)
     ]
-
-pub shape_of-states : goal.shape_of-states
-shape_of-states c = c.loop-j.invariant.same
 
 pub returns : goal.returns
 returns c =

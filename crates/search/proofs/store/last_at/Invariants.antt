@@ -1,10 +1,6 @@
 -- `search::store::last_at` meets its contract: its loop keeps that no entry from k up to below j sits at the level. The measure is k. Assumes nothing.
-use Prim.Native.Nat.{ℕ, ◌-◌, ◌≤◌}
+use Prim.Native.Nat.{ℕ, ◌≤◌}
 use mathlib.Core.List.{List}
-use native.Mathlib.Omega.{arith}
-use borrow.Author.Tests.{eqb-true, eqb-false}
-use lib.Dec.{eqb}
-use Rattle.base.proofs.Tests.{test}
 use Rattle.search.specs.Inner.{Absent}
 use Rattle.search.proofs.store.last_at.Given as goal
 
