@@ -8,14 +8,6 @@ use Rattle.search.proofs.Rounds.{tested_raises, tested_on, tested_stops}
 use Rattle.search.proofs.Taken.{moves_to}
 use Rattle.search.proofs.react.tested.Goals as goal
 
--- where the first walk has passed all, no entry from j on sits at the level
-untested : (q : tie.After-last-at)
-    → (let a = q.before.before.before.before.args in Absent a.levels.now a.j a.count a.i)
-untested q =
-    let first = q.before.before.next-at in
-    let all : first.result ≡ q.before.before.before.before.args.count = omega (arith, first.ensures.within) in
-    rw all at first.ensures.before
-
 pub returns-then-next-count : goal.returns-then-next-count
 returns-then-next-count c =
     λ ss path w.
@@ -23,13 +15,20 @@ returns-then-next-count c =
 
 pub returns-then-last_at-gt0 : goal.returns-then-last_at-gt0
 returns-then-last_at-gt0 c =
+    let a = c.args in
+    let first = c.next_at-next in
     let last = c.last_at in
-    λ ss path w. moves_to (sym (tested_on _ _ _ _ _ _ (omega arith) (untested c) (last.result - 1) (omega (arith, last.ensures.within))
+    let all : first.result ≡ a.count = omega (arith, first.ensures.within) in
+    let untested : Absent a.levels.now a.j a.count a.i = rw all at first.ensures.before in
+    λ ss path w. moves_to (sym (tested_on _ _ _ _ _ _ (omega arith) untested (last.result - 1) (omega (arith, last.ensures.within))
     (last.ensures.here (omega arith)))) (c.round.ensures ss path)
 
 pub returns : goal.returns
 returns c =
     let a = c.args in
+    let first = c.next_at-next in
+    let all : first.result ≡ a.count = omega (arith, first.ensures.within) in
+    let untested : Absent a.levels.now a.j a.count a.i = rw all at first.ensures.before in
     let none : c.last_at.result ≡ 0 = omega arith in
     let gone : Absent a.levels.now 0 a.j a.i = rw none at c.last_at.ensures.behind in
-    λ ss path w. moves_to (sym (tested_stops _ _ _ _ _ _ (omega arith) (untested c) gone)) (c.judge.ensures ss path)
+    λ ss path w. moves_to (sym (tested_stops _ _ _ _ _ _ (omega arith) untested gone)) (c.judge.ensures ss path)

@@ -3,14 +3,13 @@
 -- The measures are the levels and the entries left. Assumes nothing.
 use Prim.Native.Nat.{ℕ, ◌≤◌, ◌-◌}
 use mathlib.Core.List.{List}
-use native.Mathlib.Omega.{arith}
-use Rattle.search.proofs.Walks.{Passed, passed_none, passed_more, AllTaken, taken_none, taken_more}
+use Rattle.search.proofs.Walks.{Passed, AllTaken}
 use Rattle.search.proofs.store.gap.Given as goal
 
-record Climbs (levels : List ℕ) (count N i : ℕ) : Type 0 where
-  above : 1 ≤ i
-  below : i ≤ N
-  taken : AllTaken levels count i
+pub record Climbs (levels : List ℕ) (count N i : ℕ) : Type 0 where
+  pub above : 1 ≤ i
+  pub below : i ≤ N
+  pub taken : AllTaken levels count i
 
 abbrev pub invariant-loop-j : goal.invariant-loop-j
 invariant-loop-j l = Passed l.levels 0 l.count l.i l.j

@@ -1,7 +1,6 @@
 -- `search::store::index_of` meets its contract: its loop keeps `Passed` of `Walks.antt`. The measure is what is left of the count. Assumes nothing.
 use Prim.Native.Nat.{◌-◌}
-use native.Mathlib.Omega.{arith}
-use Rattle.search.proofs.Walks.{Passed, passed_none, passed_more, passed_found, passed_all}
+use Rattle.search.proofs.Walks.{Passed}
 use Rattle.search.proofs.store.index_of.Given as goal
 
 abbrev pub invariant-loop-j : goal.invariant-loop-j

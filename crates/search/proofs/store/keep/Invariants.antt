@@ -1,9 +1,7 @@
 -- `search::store::keep` meets its contract. The loop's invariant is `Fronted`: the states kept so far with those still to be kept are all that are
 -- to be kept, and from j on nothing is changed. The measure is the number of entries left. Assumes nothing.
 use Prim.Native.Nat.{◌-◌}
-use mathlib.Core.Logic.{⊎_elim}
-use native.Mathlib.Omega.{arith}
-use Rattle.search.proofs.Fronts.{Fronted, fronted_none, fronted_kept, fronted_passed, fronted_all}
+use Rattle.search.proofs.Fronts.{Fronted}
 use Rattle.search.proofs.store.keep.Given as goal
 
 abbrev pub invariant-loop-j : goal.invariant-loop-j

@@ -5,26 +5,22 @@ use Rattle.search.proofs.Taken.{moves_to, look_some, look_none}
 use Rattle.search.proofs.Turns.{ready_asks}
 use Rattle.search.proofs.turn.look.Goals as goal
 
--- the entry of the call, from where the question is answered
-abbrev entry : tie.After-bad-state → tie.Start
-entry q = q.before.before.before.before.before.before
-
 pub bad_state-answer-requires : goal.bad_state-answer-requires
 bad_state-answer-requires c = (ready_asks c.requires).holds
 
 pub round-requires : goal.round-requires
 round-requires c =
-    let h = (ready_asks (entry c).requires).holds in
+    let h = (ready_asks c.requires).holds in
     record { within = rw h.same h.within; above = omega arith; below = omega arith }
 
 pub returns-in-State : goal.returns-in-State
 returns-in-State c =
-    let w = (entry c).requires in
+    let w = c.requires in
     let e = rw c.in-State.is at c.bad_state-answer.ensures in
     λ step. moves_to (look_some _ _ _ _ (ready_asks w) _ _ _ e) (c.found.ensures _ _)
 
 pub returns-in-Nothing : goal.returns-in-Nothing
 returns-in-Nothing c =
-    let w = (entry c).requires in
+    let w = c.requires in
     let e = rw c.in-Nothing.is at c.bad_state-answer.ensures in
     λ step. moves_to (look_none _ _ _ _ (ready_asks w) _ _ e) (c.round.ensures _ _)

@@ -2,14 +2,6 @@
 use Rattle.search.proofs.Turns.{raise_ready}
 use Rattle.search.proofs.turn.one_turn.Goals as goal
 
-pub look-requires : goal.look-requires
-look-requires c =
-    rw c.in-Look.is at c.requires
-
-pub settle-requires : goal.settle-requires
-settle-requires c =
-    rw c.in-Settle.is at c.requires
-
 pub raise-requires : goal.raise-requires
 raise-requires c =
     raise_ready (rw c.in-Raise.is at c.requires)

@@ -6,26 +6,20 @@ use Rattle.system.specs.System.{system_of}
 use Rattle.search.proofs.Opening.{forbidden_ends, nowhere_ends, first_begins, first_searches}
 use Rattle.search.proofs.turn.searched.Goals as goal
 
--- the entry of the call, from where the question is answered
-abbrev entry : tie.After-start-state → tie.Start
-entry q = q.before.before.before.before.before.before.before.before.before
-
-leave : (q : tie.After-start-state) → 1 ≤ (entry q).args.allowance
-leave q = omega (arith, q.before.before.if1.false)
-
 pub returns-then-allowance-eq0 : goal.returns-then-allowance-eq0
 returns-then-allowance-eq0 c = forbidden_ends _ c.requires c.if-allowance-eq0.true
 
 pub returns-in_default : goal.returns-in_default
 returns-in_default c =
-    nowhere_ends _ (entry c).requires (leave c) (rw c.in_default.is at c.start_state-answer.ensures)
+    nowhere_ends _ c.requires (omega arith) (rw c.in_default.is at c.start_state-answer.ensures)
 
 pub all_turns-requires : goal.all_turns-requires
 all_turns-requires c =
-    first_begins (entry c).requires (leave c)
+    first_begins c.requires (omega arith)
 
 pub returns : goal.returns
 returns c =
-    let a = (entry c).args in
+    let a = c.args in
     let y = system_of a.f.n a.f.w a.start.now a.step.now a.bad.now in
-    rw (first_searches y (entry c).requires (leave c) _ (rw c.in-State.is at c.start_state-answer.ensures)) at c.all_turns.ensures
+    let leave : 1 ≤ a.allowance = omega arith in
+    rw (first_searches y c.requires leave _ (rw c.in-State.is at c.start_state-answer.ensures)) at c.all_turns.ensures
