@@ -12,7 +12,7 @@ returns-then-number-ne0 c = excluded_promised _ _ _ (number_checked _ _ excluded
 
 pub returns-then-not-start_free : goal.returns-then-not-start_free
 returns-then-not-start_free c =
-    excluded_start _ _ (sym c.refusal-number.ensures ∙ c.if-number-ne0.false) (sym c.start_free.ensures ∙ not-true _ c.if-not-start_free.true)
+    excluded_start _ _ (sym c.refusal-number.ensures ∙ c.if-number-ne0.false) (sym c.start_free.ensures ∙ c.if-not-start_free.true)
 
 pub bad_outside-answer-requires : goal.bad_outside-answer-requires
 bad_outside-answer-requires c =
@@ -25,12 +25,12 @@ closed-requires c =
 pub returns-in_default : goal.returns-in_default
 returns-in_default c =
     excluded_bad _ _ (sym c.refusal-number.ensures ∙ c.if-number-ne0.false)
-    (sym c.start_free.ensures ∙ not-false _ c.if-not-start_free.false)
+    (sym c.start_free.ensures ∙ c.if-not-start_free.false)
     _ (sym c.bad_outside-answer.ensures ∙ ap answered c.in_default.is)
 
 pub returns : goal.returns
 returns c =
     excluded_closed _ _ (sym c.refusal-number.ensures ∙ c.if-number-ne0.false)
-    (sym c.start_free.ensures ∙ not-false _ c.if-not-start_free.false)
+    (sym c.start_free.ensures ∙ c.if-not-start_free.false)
     _ (sym c.bad_outside-answer.ensures ∙ ap answered c.in-Nothing.is)
     c.closed.ensures

@@ -16,7 +16,7 @@ returns-then-path-eq0 c =
 
 pub returns-then-not-is_start : goal.returns-then-not-is_start
 returns-then-not-is_start c =
-    path_of_others _ _ (sym c.refusal-number.ensures ∙ c.if-number-ne0.false) (omega arith) (sym c.is_start.ensures ∙ not-true _ c.if-not-is_start.true)
+    path_of_others _ _ (sym c.refusal-number.ensures ∙ c.if-number-ne0.false) (omega arith) (sym c.is_start.ensures ∙ c.if-not-is_start.true)
 
 pub leads_on-requires : goal.leads_on-requires
 leads_on-requires c =
@@ -25,11 +25,11 @@ leads_on-requires c =
 pub returns-then-leads_on : goal.returns-then-leads_on
 returns-then-leads_on c =
     path_to_bad _ _ (sym c.refusal-number.ensures ∙ c.if-number-ne0.false) (omega arith)
-    (sym c.is_start.ensures ∙ not-false _ c.if-not-is_start.false)
+    (sym c.is_start.ensures ∙ c.if-not-is_start.false)
     (sym c.leads_on.ensures ∙ c.if-leads_on.true)
 
 pub returns : goal.returns
 returns c =
     path_astray _ _ (sym c.refusal-number.ensures ∙ c.if-number-ne0.false) (omega arith)
-    (sym c.is_start.ensures ∙ not-false _ c.if-not-is_start.false)
+    (sym c.is_start.ensures ∙ c.if-not-is_start.false)
     (sym c.leads_on.ensures ∙ c.if-leads_on.false)
