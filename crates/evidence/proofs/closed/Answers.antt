@@ -1,10 +1,6 @@
-use Prim.Native.Nat.{◌+◌, ◌^◌, ◌≤◌, ◌-◌}
-use mathlib.Core.Path.{◌≡◌, refl, sym, ap, ◌∙◌}
+use mathlib.Core.Path.{refl, sym, ap, ◌∙◌}
 use native.Mathlib.Omega.{arith}
-use lib.ListN.{length, drop}
 use Rattle.question.specs.Question.{answered}
-use Rattle.system.specs.System.{some_true, pair}
-use Rattle.evidence.specs.Check.{closed_from}
 use Rattle.evidence.proofs.Excluding.{closed_stops, closed_passes, closed_ends}
 use borrow.Author.Rules.{rules}
 use Rattle.evidence.proofs.closed.Goals as goal

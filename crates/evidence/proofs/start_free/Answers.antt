@@ -1,9 +1,6 @@
-use Prim.Native.Nat.{◌-◌}
 use mathlib.Core.Bool.{not}
 use mathlib.Core.Path.{refl, sym, ap, ◌∙◌}
-use lib.ListN.{length}
-use Rattle.system.specs.System.{list_true}
-use Rattle.evidence.proofs.Each.{Walked, each_stops, each_passes, each_ends}
+use Rattle.evidence.proofs.Each.{each_stops, each_passes, each_ends}
 use borrow.Author.Rules.{rules}
 use Rattle.evidence.proofs.start_free.Goals as goal
 

@@ -1,11 +1,8 @@
-use Prim.Native.Nat.{◌^◌, ◌-◌}
 use mathlib.Core.Path.{sym, ap, ◌∙◌}
 use native.Mathlib.Omega.{arith}
-use lib.ListN.{length}
-use Rattle.system.specs.System.{some_true, pair}
 use Rattle.question.specs.Question.{answered}
 use Rattle.question.proofs.Ranges.{is_between}
-use Rattle.into.proofs.Filling.{Filling, filling_small, filling_none, filling_more, filled, overfull}
+use Rattle.into.proofs.Filling.{filling_small, filling_none, filling_more, filled, overfull}
 use Rattle.into.proofs.fill.Goals as goal
 
 pub loop-s-init : goal.loop-s-init

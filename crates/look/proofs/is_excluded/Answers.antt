@@ -15,7 +15,7 @@ loop-j-preserved c = (
   omega arith,
   below_more _ _ c.loop-j.invariant.1
       (elim c.if-states-j.branch [
-        then-states-j+else-at_level w ↦ entry_same _ _ _ _ _ w.if-states-j.true ∙ sym w.at_level.ensures ∙ w.if-at_level.false
+        | then-states-j+else-at_level w ↦ entry_same _ _ _ _ _ w.if-states-j.true ∙ sym w.at_level.ensures ∙ w.if-at_level.false
         | else-states-j w ↦ entry_other _ _ _ _ _ w.if-states-j.false
       ]),
 )

@@ -11,17 +11,17 @@ returns c =
     let a = c.args in
     let m = c.match-verdict in
     let closable : Closable (stores a.states.now a.levels.now a.path.now) a.ending.verdict a.ending.questions m.states m.front m.len m.outcome =
-        elim m.branch [
-          in-Safe w ↦
-              let e = w.in-Safe.is in
-              let k = w.keep-front in
-              let b = rw e at c.requires.counted in
-              rw (w.states-is, w.front-is, w.len-is, w.outcome-is)
-              (closes_safe _ _ _ _ _ _ _ e k.ensures.front (omega (arith, b)) k.auto.states)
-        | in-Unsafe w ↦
-              let e = w.in-Unsafe.is in
-              rw (w.states-is, w.front-is, w.len-is, w.outcome-is) (closes_unsafe _ _ _ _ e (rw e at c.requires.counted))
-        | in-GaveUp w ↦
-              rw (w.states-is, w.front-is, w.len-is, w.outcome-is) (closes_given_up _ _ _ _ _ w.in-GaveUp.is w.number.ensures)
-        ]
+    elim m.branch [
+      | in-Safe w ↦
+          let e = w.in-Safe.is in
+          let k = w.keep-front in
+          let b = rw e at c.requires.counted in
+          rw (w.states-is, w.front-is, w.len-is, w.outcome-is)
+          (closes_safe _ _ _ _ _ _ _ e k.ensures.front (omega (arith, b)) k.auto.states)
+      | in-Unsafe w ↦
+          let e = w.in-Unsafe.is in
+          rw (w.states-is, w.front-is, w.len-is, w.outcome-is) (closes_unsafe _ _ _ _ e (rw e at c.requires.counted))
+      | in-GaveUp w ↦
+          rw (w.states-is, w.front-is, w.len-is, w.outcome-is) (closes_given_up _ _ _ _ _ w.in-GaveUp.is w.number.ensures)
+    ]
     in closable.closes _ c.finish.ensures

@@ -81,7 +81,7 @@ settle-returns-in-Failed-said t c =
     let L = c.loop-reason.invariant in
     let leads : Led width P (setting c.args.s) c.match-look.trail c.loop-reason.noted (setting c.loop-reason.r) =
     elim c.match-look.branch [
-      settle-in-Failed w ↦ rw w.trail-is L
+      | settle-in-Failed w ↦ rw w.trail-is L
       | settle-in-Forced w ↦ rw w.trail-is L
       | settle-in-Rest+then-bits w ↦ rw w.trail-is L
       | settle-in-Rest+else-bits w ↦ rw w.trail-is (led_lent L _ (led_within L (omega arith)))
@@ -116,7 +116,7 @@ settle-loop-reason-preserved t c =
     let L = c.loop-reason.invariant in
     let leads : Led width P (setting c.args.s) c.match-look.trail c.loop-reason.noted (setting c.loop-reason.r) =
     elim c.match-look.branch [
-      settle-in-Failed w ↦ rw w.trail-is L
+      | settle-in-Failed w ↦ rw w.trail-is L
       | settle-in-Forced w ↦ rw w.trail-is L
       | settle-in-Rest+then-bits w ↦ rw w.trail-is L
       | settle-in-Rest+else-bits w ↦ rw w.trail-is (led_lent L _ (led_within L (omega arith)))

@@ -5,12 +5,11 @@ use Rattle.question.proofs.Along.{along_none, along_last}
 use Rattle.question.proofs.trail.resolve_along.Goals as goal
 
 pub loop-left-preserved : goal.loop-left-preserved
-loop-left-preserved c =
-    (
-      omega arith,
-      rw (c.resolve-r.ensures, c.mask_at.ensures, c.mask_at-in-loop-left.ensures)
-          (along_last width _ _ _ (omega arith) ∙ c.loop-left.invariant.1),
-    )
+loop-left-preserved c = (
+  omega arith,
+  rw (c.resolve-r.ensures, c.mask_at.ensures, c.mask_at-in-loop-left.ensures)
+      (along_last width _ _ _ (omega arith) ∙ c.loop-left.invariant.1),
+)
 
 pub returns : goal.returns
 returns c =

@@ -11,8 +11,8 @@ loop-j-preserved c =
     let l = c.loop-j in
     let h = c.loop-j-test.true in
     elim c.if-i-levels.branch [
-      then-i-levels w ↦ rw (w.states-is, w.kept-is) (fronted_kept _ _ _ _ _ _ _ l.invariant h c.requires.within w.if-i-levels.true)
-    | else-i-levels w ↦ rw (w.states-is, w.kept-is) (fronted_passed _ _ _ _ _ _ _ l.invariant h w.if-i-levels.false)
+      | then-i-levels w ↦ rw (w.states-is, w.kept-is) (fronted_kept _ _ _ _ _ _ _ l.invariant h c.requires.within w.if-i-levels.true)
+      | else-i-levels w ↦ rw (w.states-is, w.kept-is) (fronted_passed _ _ _ _ _ _ _ l.invariant h w.if-i-levels.false)
     ]
 
 pub returns : goal.returns

@@ -21,10 +21,10 @@ returns c =
     let e = c.step_state-answer.ensures in
     λ bad path. let y = system_of a.f.n a.f.w a.start.now a.step.now bad in
     elim c.match-answer.branch [
-      in-State w ↦
+      | in-State w ↦
           moves_to (rw w.levels-is (raise_not y _ _ _ _ _ _ c.requires _ _ (rw w.in-State.is at e)))
           (c.tested.ensures _ path (rw w.levels-is c.requires.asks.tidy))
-    | in-Nothing w ↦
+      | in-Nothing w ↦
           moves_to (rw w.levels-is (raise_up y _ _ _ _ _ _ c.requires _ (rw w.in-Nothing.is at e)))
           (c.tested.ensures _ path (rw w.levels-is (raised_tidy c.requires)))
     ]
