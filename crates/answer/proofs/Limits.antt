@@ -11,7 +11,7 @@ use Rattle.base.proofs.Tests.{test}
 use Rattle.ic3.specs.Search.{no_room, spent, no_start, Verdict, safe, unsafe, gave_up}
 use Rattle.ic3.specs.Demands.{listed}
 use Rattle.system.specs.System.{System, wrong_size, wrong_count, wrong_bits, refusal_of}
-use Rattle.call.specs.Call.{Stores, wrong_stores, refused, ended, called}
+use Rattle.call.specs.Call.{Stores, wrong_stores, ended, called}
 use Rattle.call.proofs.Call.{refused_system, refused_stores, called_refused, called_searches}
 use Rattle.house.specs.File.{Reading, Said, file, said}
 use Rattle.house.specs.File as house

@@ -1,10 +1,7 @@
-use Prim.Native.Nat.{◌+◌, ◌-◌, ◌*◌, ◌≤◌}
-use mathlib.Core.Path.{◌≡◌, refl, ◌∙◌}
+use mathlib.Core.Path.{refl, ◌∙◌}
 use native.Mathlib.Omega.{arith}
-use lib.ListN.{length, take}
 use lib.Seq.{take_all}
 use Rattle.text.proofs.Laying.{writes_none, writes_length}
-use Rattle.text.specs.Writing.{Writes}
 use Rattle.line.specs.Text.{sum}
 use Rattle.answer.specs.Output.{digits}
 use Rattle.answer.proofs.Lines.{digits_end, sum_more, line_more, line_ended}

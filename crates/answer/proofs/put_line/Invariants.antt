@@ -1,15 +1,11 @@
 -- `answer::put_line` meets its contract. The loop's invariant: the digits of the first j bytes were written, and their sum was kept. The measure is
 -- what is left of the frame. Assumes nothing.
 use Prim.Native.Nat.{◌+◌, ◌-◌, ◌*◌, ◌≤◌}
-use mathlib.Core.Path.{◌≡◌, refl, ◌∙◌}
-use native.Mathlib.Omega.{arith}
+use mathlib.Core.Path.{◌≡◌}
 use lib.ListN.{length, take}
-use lib.Seq.{take_all}
-use Rattle.text.proofs.Laying.{writes_none, writes_length}
 use Rattle.text.specs.Writing.{Writes}
 use Rattle.line.specs.Text.{sum}
 use Rattle.answer.specs.Output.{digits}
-use Rattle.answer.proofs.Lines.{digits_end, sum_more, line_more, line_ended}
 use Rattle.answer.proofs.put_line.Given as goal
 
 abbrev pub invariant-loop-j : goal.invariant-loop-j

@@ -1,10 +1,6 @@
-use Prim.Native.Nat.{◌+◌, ◌-◌, ◌*◌, ◌≤◌}
-use mathlib.Core.Path.{◌≡◌}
 use native.Mathlib.Omega.{arith}
-use lib.ListN.{length, take}
 use lib.Seq.{take_all}
 use Rattle.text.proofs.Laying.{writes_none, writes_length}
-use Rattle.text.specs.Writing.{Writes}
 use Rattle.answer.specs.Answer.{state_lines}
 use Rattle.answer.proofs.Lines.{line_end}
 use Rattle.answer.proofs.Frames.{writes_state, states_more}

@@ -1,5 +1,5 @@
 -- `evidence_trials::cases` is safe and ends. The measure is how many cases are left. Assumes nothing.
-use Rattle.std.proofs.Common.{◌-◌, rules}
+use Rattle.std.proofs.Common.{◌-◌}
 use Rattle.evidence_trials.proofs.cases.Given as goal
 
 abbrev pub invariant-loop-code : goal.invariant-loop-code

@@ -1,5 +1,5 @@
 -- `into_trials::lengths` is safe and ends. The measure is how many lengths are left. Assumes nothing.
-use Rattle.std.proofs.Common.{◌-◌, rules}
+use Rattle.std.proofs.Common.{◌-◌}
 use Rattle.into_trials.proofs.lengths.Given as goal
 
 abbrev pub invariant-loop-turn : goal.invariant-loop-turn

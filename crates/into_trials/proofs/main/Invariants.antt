@@ -1,5 +1,5 @@
 -- `into_trials::main` is safe and ends. The measure is how many systems are left. Assumes nothing.
-use Rattle.std.proofs.Common.{◌-◌, rules}
+use Rattle.std.proofs.Common.{◌-◌}
 use Rattle.into_trials.proofs.main.Given as goal
 
 abbrev pub invariant-loop-i : goal.invariant-loop-i

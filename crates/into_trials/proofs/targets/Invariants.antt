@@ -1,5 +1,5 @@
 -- `into_trials::targets` is safe and ends. The measure is how many given states are left. Assumes nothing.
-use Rattle.std.proofs.Common.{◌-◌, rules}
+use Rattle.std.proofs.Common.{◌-◌}
 use Rattle.into_trials.proofs.targets.Given as goal
 
 abbrev pub invariant-loop-k : goal.invariant-loop-k

@@ -1,5 +1,5 @@
 -- `question_trials::fill_clauses` is safe and ends. The measure is how many masks are left. Assumes nothing.
-use Rattle.std.proofs.Common.{◌-◌, rules}
+use Rattle.std.proofs.Common.{◌-◌}
 use Rattle.question_trials.proofs.fill_clauses.Given as goal
 
 abbrev pub invariant-loop-j : goal.invariant-loop-j

@@ -1,5 +1,5 @@
 -- `question_trials::fill_stores` is safe and ends. The measure is how many entries are left. Assumes nothing.
-use Rattle.std.proofs.Common.{◌-◌, rules}
+use Rattle.std.proofs.Common.{◌-◌}
 use Rattle.question_trials.proofs.fill_stores.Given as goal
 
 abbrev pub invariant-loop-j : goal.invariant-loop-j

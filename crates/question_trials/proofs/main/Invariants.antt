@@ -1,5 +1,4 @@
 -- `question_trials::main` is safe and ends. The measure is how many questions are left. Assumes nothing.
-use Rattle.std.proofs.Common.{rules}
 use Rattle.question_trials.proofs.main.Given as goal
 
 abbrev pub invariant-loop-left : goal.invariant-loop-left

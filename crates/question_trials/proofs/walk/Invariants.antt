@@ -1,5 +1,5 @@
 -- `question_trials::walk` is safe and ends. The measure is how many states are left. Assumes nothing.
-use Rattle.std.proofs.Common.{◌-◌, rules}
+use Rattle.std.proofs.Common.{◌-◌}
 use Rattle.question_trials.proofs.walk.Given as goal
 
 abbrev pub invariant-loop-state : goal.invariant-loop-state

@@ -1,5 +1,5 @@
 -- `search_trials::calls` is safe and ends. The measure is how many calls can still come. Assumes nothing.
-use Rattle.std.proofs.Common.{◌-◌, rules}
+use Rattle.std.proofs.Common.{◌-◌}
 use Rattle.search_trials.proofs.calls.Given as goal
 
 abbrev pub invariant-loop-turn : goal.invariant-loop-turn

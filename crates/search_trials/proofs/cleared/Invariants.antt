@@ -1,5 +1,5 @@
 -- `search_trials::cleared` is safe and ends. The measure is what is left of the longest store. Assumes nothing.
-use Rattle.std.proofs.Common.{◌-◌, length, rules}
+use Rattle.std.proofs.Common.{◌-◌, length}
 use Rattle.search_trials.proofs.cleared.Given as goal
 
 abbrev pub invariant-loop-j : goal.invariant-loop-j

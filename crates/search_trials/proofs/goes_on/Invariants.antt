@@ -1,5 +1,5 @@
 -- `search_trials::goes_on` is safe and ends. The measure is how many states are left. Assumes nothing.
-use Rattle.std.proofs.Common.{◌-◌, rules}
+use Rattle.std.proofs.Common.{◌-◌}
 use Rattle.search_trials.proofs.goes_on.Given as goal
 
 abbrev pub invariant-loop-t : goal.invariant-loop-t

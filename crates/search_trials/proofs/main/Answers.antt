@@ -1,4 +1,4 @@
-use Rattle.std.proofs.Common.{◌≡◌, ◌-◌, false, length, rules}
+use Rattle.std.proofs.Common.{false}
 use lib.ListN.{length-replicate}
 use Rattle.search_trials.proofs.main.Goals as goal
 

@@ -1,6 +1,5 @@
 -- `search_trials::main` is safe and ends. The loop's invariant: the table keeps its length. The measure is how many systems are left. Assumes nothing.
-use Rattle.std.proofs.Common.{◌≡◌, ◌-◌, false, length, rules}
-use lib.ListN.{length-replicate}
+use Rattle.std.proofs.Common.{◌≡◌, ◌-◌, length}
 use Rattle.search_trials.proofs.main.Given as goal
 
 abbrev pub invariant-loop-i : goal.invariant-loop-i

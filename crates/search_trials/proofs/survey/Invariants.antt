@@ -1,5 +1,5 @@
 -- `search_trials::survey` is safe and ends. The measure is how many states are left. Assumes nothing.
-use Rattle.std.proofs.Common.{◌-◌, rules}
+use Rattle.std.proofs.Common.{◌-◌}
 use Rattle.search_trials.proofs.survey.Given as goal
 
 abbrev pub invariant-loop-s : goal.invariant-loop-s

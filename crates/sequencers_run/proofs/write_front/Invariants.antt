@@ -1,5 +1,5 @@
 -- `sequencers_run::write_front` is safe and ends. The measure is what is left of the length. Assumes nothing.
-use Rattle.std.proofs.Common.{◌-◌, length, rules}
+use Rattle.std.proofs.Common.{◌-◌, length}
 use Rattle.sequencers_run.proofs.write_front.Given as goal
 
 abbrev pub invariant-loop-j : goal.invariant-loop-j

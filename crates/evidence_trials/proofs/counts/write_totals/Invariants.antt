@@ -1,5 +1,5 @@
 -- `evidence_trials::counts::write_totals` is safe and ends. The measure is how many lines are left. Assumes nothing.
-use Rattle.std.proofs.Common.{◌-◌, rules}
+use Rattle.std.proofs.Common.{◌-◌}
 use Rattle.evidence_trials.proofs.counts.write_totals.Given as goal
 
 abbrev pub invariant-loop-j : goal.invariant-loop-j

@@ -1,5 +1,5 @@
 -- `evidence_trials::damage::damaged` is safe and ends. The measure is how many entries are left. Assumes nothing.
-use Rattle.std.proofs.Common.{◌-◌, rules}
+use Rattle.std.proofs.Common.{◌-◌}
 use Rattle.evidence_trials.proofs.damage.damaged.Given as goal
 
 abbrev pub invariant-loop-j : goal.invariant-loop-j

@@ -1,5 +1,5 @@
 -- `evidence_trials::found::collect` is safe and ends. The measure is how many states are left. Assumes nothing.
-use Rattle.std.proofs.Common.{◌-◌, rules}
+use Rattle.std.proofs.Common.{◌-◌}
 use Rattle.evidence_trials.proofs.found.collect.Given as goal
 
 abbrev pub invariant-loop-s : goal.invariant-loop-s

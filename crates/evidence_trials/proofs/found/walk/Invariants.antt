@@ -1,5 +1,5 @@
 -- `evidence_trials::found::walk` is safe and ends. The measure is how much room the path has left. Assumes nothing.
-use Rattle.std.proofs.Common.{◌-◌, rules}
+use Rattle.std.proofs.Common.{◌-◌}
 use Rattle.evidence_trials.proofs.found.walk.Given as goal
 
 abbrev pub invariant-loop-k : goal.invariant-loop-k

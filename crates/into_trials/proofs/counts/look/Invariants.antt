@@ -1,5 +1,5 @@
 -- `into_trials::counts::look` is safe and ends. The measure is what is left of the length. Assumes nothing.
-use Rattle.std.proofs.Common.{◌-◌, length, rules}
+use Rattle.std.proofs.Common.{◌-◌, length}
 use Rattle.into_trials.proofs.counts.look.Given as goal
 
 abbrev pub invariant-loop-j : goal.invariant-loop-j

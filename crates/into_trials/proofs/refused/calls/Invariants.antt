@@ -1,5 +1,5 @@
 -- `into_trials::refused::calls` is safe and ends. The measure is how many ways are left. Assumes nothing.
-use Rattle.std.proofs.Common.{◌-◌, rules}
+use Rattle.std.proofs.Common.{◌-◌}
 use Rattle.into_trials.proofs.refused.calls.Given as goal
 
 abbrev pub invariant-loop-way : goal.invariant-loop-way

@@ -1,5 +1,5 @@
 -- `wires_trials::checks::calls` is safe and ends. The measure is how many damages are left. Assumes nothing.
-use Rattle.std.proofs.Common.{◌-◌, rules}
+use Rattle.std.proofs.Common.{◌-◌}
 use Rattle.wires_trials.proofs.checks.calls.Given as goal
 
 abbrev pub invariant-loop-k : goal.invariant-loop-k

@@ -1,5 +1,5 @@
 -- `wires_trials::checks::copy` is safe and ends. The measure is how many places are left. Assumes nothing.
-use Rattle.std.proofs.Common.{◌-◌, rules}
+use Rattle.std.proofs.Common.{◌-◌}
 use Rattle.wires_trials.proofs.checks.copy.Given as goal
 
 abbrev pub invariant-loop-j : goal.invariant-loop-j

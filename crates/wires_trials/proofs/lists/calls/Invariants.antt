@@ -1,5 +1,5 @@
 -- `wires_trials::lists::calls` is safe and ends. The measure is how many states are left. Assumes nothing.
-use Rattle.std.proofs.Common.{◌-◌, rules}
+use Rattle.std.proofs.Common.{◌-◌}
 use Rattle.wires_trials.proofs.lists.calls.Given as goal
 
 abbrev pub invariant-loop-t : goal.invariant-loop-t

@@ -1,5 +1,5 @@
 -- `wires_trials::lists::is_right` is safe and ends. The measure is what is left of the store. Assumes nothing.
-use Rattle.std.proofs.Common.{◌-◌, length, rules}
+use Rattle.std.proofs.Common.{◌-◌, length}
 use Rattle.wires_trials.proofs.lists.is_right.Given as goal
 
 abbrev pub invariant-loop-j : goal.invariant-loop-j

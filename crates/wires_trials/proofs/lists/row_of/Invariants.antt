@@ -1,5 +1,5 @@
 -- `wires_trials::lists::row_of` is safe and ends. The measure is how many states are left. Assumes nothing.
-use Rattle.std.proofs.Common.{◌-◌, rules}
+use Rattle.std.proofs.Common.{◌-◌}
 use Rattle.wires_trials.proofs.lists.row_of.Given as goal
 
 abbrev pub invariant-loop-s : goal.invariant-loop-s

@@ -1,5 +1,5 @@
 -- `wires_trials::questions::calls` is safe and ends. The measure is how many questions are left. Assumes nothing.
-use Rattle.std.proofs.Common.{◌-◌, rules}
+use Rattle.std.proofs.Common.{◌-◌}
 use Rattle.wires_trials.proofs.questions.calls.Given as goal
 
 abbrev pub invariant-loop-k : goal.invariant-loop-k

@@ -1,5 +1,5 @@
 -- `wires_trials::questions::fill` is safe and ends. The measure is how many states are left. Assumes nothing.
-use Rattle.std.proofs.Common.{◌-◌, rules}
+use Rattle.std.proofs.Common.{◌-◌}
 use Rattle.wires_trials.proofs.questions.fill.Given as goal
 
 abbrev pub invariant-loop-j : goal.invariant-loop-j

@@ -1,5 +1,5 @@
 -- `wires_trials::questions::turns` is safe and ends. The measure is how many turns are left. Assumes nothing.
-use Rattle.std.proofs.Common.{◌-◌, rules}
+use Rattle.std.proofs.Common.{◌-◌}
 use Rattle.wires_trials.proofs.questions.turns.Given as goal
 
 abbrev pub invariant-loop-turn : goal.invariant-loop-turn

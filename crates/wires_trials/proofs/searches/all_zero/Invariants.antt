@@ -1,5 +1,5 @@
 -- `wires_trials::searches::all_zero` is safe and ends. The measure is what is left of the store. Assumes nothing.
-use Rattle.std.proofs.Common.{◌-◌, length, rules}
+use Rattle.std.proofs.Common.{◌-◌, length}
 use Rattle.wires_trials.proofs.searches.all_zero.Given as goal
 
 abbrev pub invariant-loop-j : goal.invariant-loop-j

@@ -1,5 +1,5 @@
 -- `wires_trials::systems::lift` is safe and ends. The loop's invariant: the list keeps its length. The measure is what is left of it. Assumes nothing.
-use Rattle.std.proofs.Common.{◌≡◌, ◌-◌, length, rules}
+use Rattle.std.proofs.Common.{◌≡◌, ◌-◌, length}
 use Rattle.wires_trials.proofs.systems.lift.Given as goal
 
 abbrev pub invariant-loop-j : goal.invariant-loop-j
