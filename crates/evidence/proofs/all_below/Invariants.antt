@@ -1,12 +1,10 @@
 -- `evidence::all_below` meets its contract. The loop's invariant: the whole list answers what it answers from index j on. The measure is what is left
 -- of the length. Assumes nothing.
 use Prim.Native.Nat.{◌^◌, ◌-◌}
-use mathlib.Core.Path.{◌≡◌, refl, ◌∙◌}
-use native.Mathlib.Omega.{arith}
+use mathlib.Core.Path.{◌≡◌}
 use lib.Dec.{ltb}
 use lib.ListN.{length}
-use Rattle.masks.proofs.OneBit.{pow_within}
-use Rattle.evidence.proofs.Each.{Walked, each_ends, below_stops, below_passes}
+use Rattle.evidence.proofs.Each.{Walked}
 use Rattle.evidence.proofs.all_below.Given as goal
 
 abbrev pub invariant-loop-j : goal.invariant-loop-j

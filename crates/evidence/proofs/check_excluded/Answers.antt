@@ -1,6 +1,5 @@
 -- `evidence::check_excluded` meets its contract: each return is a case of the definition, which the promise follows from. Assumes nothing.
 use mathlib.Core.Path.{sym, ap, ◌∙◌}
-use borrow.Author.Tests.{not-true, not-false}
 use Rattle.question.specs.Question.{answered}
 use Rattle.evidence.specs.Check.{excluded_states}
 use Rattle.evidence.proofs.Judging.{number_checked, excluded_promised, refused_small}

@@ -1,7 +1,6 @@
 -- `evidence::check_path` meets its contract: each return is a case of the definition, which the promise follows from. Assumes nothing.
 use mathlib.Core.Path.{sym, ◌∙◌}
 use native.Mathlib.Omega.{arith}
-use borrow.Author.Tests.{not-true, not-false}
 use Rattle.evidence.specs.Check.{path_of}
 use Rattle.evidence.proofs.Judging.{number_checked, path_promised, refused_below}
 use Rattle.evidence.proofs.Cases.{path_of_none, path_of_others, path_astray, path_to_bad}

@@ -1,16 +1,8 @@
-use Prim.Native.Nat.{◌+◌, ◌^◌, ◌≤◌, ◌-◌}
-use mathlib.Core.Path.{◌≡◌, refl, sym, ap, ◌∙◌}
+use mathlib.Core.Path.{sym, ap, ◌∙◌}
 use native.Mathlib.Omega.{arith}
-use lib.ListN.{length, drop}
 use Rattle.question.specs.Question.{answered}
-use Rattle.system.specs.System.{some_true, pair}
-use Rattle.evidence.specs.Check.{closed_from}
 use Rattle.evidence.proofs.Excluding.{closed_stops, closed_passes, closed_ends}
-use borrow.Author.Rules.{rules}
 use Rattle.evidence.proofs.closed.Goals as goal
-
-pub loop-j-init : goal.loop-j-init
-loop-j-init c = (search rules, search rules, refl)
 
 pub returns-in_default : goal.returns-in_default
 returns-in_default c =

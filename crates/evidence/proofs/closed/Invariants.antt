@@ -1,13 +1,10 @@
 -- `evidence::closed` meets its contract. The loop's invariant: the questions from index j on, with those asked so far, give the whole answer. The
 -- measure is what is left of the length. Assumes nothing.
 use Prim.Native.Nat.{◌+◌, ◌^◌, ◌≤◌, ◌-◌}
-use mathlib.Core.Path.{◌≡◌, refl, sym, ap, ◌∙◌}
-use native.Mathlib.Omega.{arith}
+use mathlib.Core.Path.{◌≡◌}
 use lib.ListN.{length, drop}
-use Rattle.question.specs.Question.{answered}
 use Rattle.system.specs.System.{some_true, pair}
 use Rattle.evidence.specs.Check.{closed_from}
-use Rattle.evidence.proofs.Excluding.{closed_stops, closed_passes, closed_ends}
 use Rattle.evidence.proofs.closed.Given as goal
 
 abbrev pub invariant-loop-j : goal.invariant-loop-j

@@ -2,10 +2,9 @@
 -- of the length. Assumes nothing.
 use Prim.Native.Nat.{◌-◌}
 use mathlib.Core.Bool.{not}
-use mathlib.Core.Path.{refl, sym, ap, ◌∙◌}
 use lib.ListN.{length}
 use Rattle.system.specs.System.{list_true}
-use Rattle.evidence.proofs.Each.{Walked, each_stops, each_passes, each_ends}
+use Rattle.evidence.proofs.Each.{Walked}
 use Rattle.evidence.proofs.start_free.Given as goal
 
 abbrev pub invariant-loop-j : goal.invariant-loop-j

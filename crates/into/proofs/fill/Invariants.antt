@@ -2,13 +2,9 @@
 -- one. An answer is written behind them, or says that they are all, or that the store is too short. The measure is what is left of the store.
 -- Assumes nothing.
 use Prim.Native.Nat.{◌^◌, ◌-◌}
-use mathlib.Core.Path.{sym, ap, ◌∙◌}
-use native.Mathlib.Omega.{arith}
 use lib.ListN.{length}
 use Rattle.system.specs.System.{some_true, pair}
-use Rattle.question.specs.Question.{answered}
-use Rattle.question.proofs.Ranges.{is_between}
-use Rattle.into.proofs.Filling.{Filling, filling_small, filling_none, filling_more, filled, overfull}
+use Rattle.into.proofs.Filling.{Filling}
 use Rattle.into.proofs.fill.Given as goal
 
 abbrev pub invariant-loop-s : goal.invariant-loop-s
