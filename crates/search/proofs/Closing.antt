@@ -1,7 +1,7 @@
 -- What closing leaves. Each store is its evidence, or nothing, with zeros behind it; how far the zeros go depends on the store's length alone, and
 -- that never changes. So the evidence read off the front is the one put there. Assumes nothing.
 use Prim.Native.Nat.{ℕ, zero, suc, ◌+◌, ◌≤◌}
-use mathlib.Core.List.{List, [], ◌∷◌}
+use mathlib.Core.List.{List, ◌∷◌}
 use mathlib.Core.Path.{◌≡◌, refl, sym, ap}
 use native.Mathlib.Omega.{arith}
 use lib.Dec.{leb}

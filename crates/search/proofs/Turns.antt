@@ -13,13 +13,13 @@ use Rattle.ic3.proofs.Shape.{next_keeps_shape}
 use Rattle.system.specs.System.{System, model}
 use Rattle.call.specs.Call.{Stores, rounds}
 use Rattle.call.proofs.Call.{Lengths}
-use Rattle.search.specs.Lent.{store_of, window, config, config_of}
-use Rattle.search.specs.Inner.{Asks, Raises, Lends, Ready, Moves, Begins, Ends}
+use Rattle.search.specs.Lent.{store_of, config, config_of}
+use Rattle.search.specs.Inner.{Asks, Raises, Lends, Ready, Moves, Ends}
 use Rattle.search.specs.declared.react.Verdict.{Verdict}
 use Rattle.search.specs.declared.react.Why.TheVariants.{Spent}
 use Rattle.search.specs.declared.react.Verdict.TheVariants.{GaveUp}
 use Rattle.search.specs.declared.react.Phase.{Phase}
-use Rattle.search.specs.declared.react.Phase.TheVariants.{Look, Raise}
+use Rattle.search.specs.declared.react.Phase.TheVariants.{Raise}
 use Rattle.search.specs.declared.react.Config.{Config}
 use Rattle.search.specs.declared.react.Move.TheVariants.{Go, Stop}
 use Rattle.search.proofs.Rounds.{level_entry}
