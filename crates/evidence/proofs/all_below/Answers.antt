@@ -1,12 +1,6 @@
-use mathlib.Core.Path.{refl, ◌∙◌}
 use native.Mathlib.Omega.{arith}
-use Rattle.masks.proofs.OneBit.{pow_within}
 use Rattle.evidence.proofs.Each.{each_ends, below_stops, below_passes}
-use borrow.Author.Rules.{rules}
 use Rattle.evidence.proofs.all_below.Goals as goal
-
-pub loop-j-init : goal.loop-j-init
-loop-j-init c = (c.power-end.ensures ∙ pow_within 64 _ (omega arith), (search rules, refl))
 
 pub returns-then-end-states : goal.returns-then-end-states
 returns-then-end-states c =

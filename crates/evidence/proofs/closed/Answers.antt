@@ -1,12 +1,8 @@
-use mathlib.Core.Path.{refl, sym, ap, ◌∙◌}
+use mathlib.Core.Path.{sym, ap, ◌∙◌}
 use native.Mathlib.Omega.{arith}
 use Rattle.question.specs.Question.{answered}
 use Rattle.evidence.proofs.Excluding.{closed_stops, closed_passes, closed_ends}
-use borrow.Author.Rules.{rules}
 use Rattle.evidence.proofs.closed.Goals as goal
-
-pub loop-j-init : goal.loop-j-init
-loop-j-init c = (search rules, search rules, refl)
 
 pub returns-in_default : goal.returns-in_default
 returns-in_default c =

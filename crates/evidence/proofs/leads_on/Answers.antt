@@ -1,10 +1,6 @@
-use mathlib.Core.Path.{refl, sym, ◌∙◌}
+use mathlib.Core.Path.{sym, ◌∙◌}
 use Rattle.evidence.proofs.Paths.{leads_stops, leads_passes, leads_ends, step_asked, bad_asked}
-use borrow.Author.Rules.{rules}
 use Rattle.evidence.proofs.leads_on.Goals as goal
-
-pub loop-j-init : goal.loop-j-init
-loop-j-init c = (search rules, refl)
 
 pub returns-then-not-some_true : goal.returns-then-not-some_true
 returns-then-not-some_true c =

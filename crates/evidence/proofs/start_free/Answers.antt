@@ -1,11 +1,7 @@
 use mathlib.Core.Bool.{not}
-use mathlib.Core.Path.{refl, sym, ap, ◌∙◌}
+use mathlib.Core.Path.{sym, ap, ◌∙◌}
 use Rattle.evidence.proofs.Each.{each_stops, each_passes, each_ends}
-use borrow.Author.Rules.{rules}
 use Rattle.evidence.proofs.start_free.Goals as goal
-
-pub loop-j-init : goal.loop-j-init
-loop-j-init c = (search rules, refl)
 
 pub returns-then-is_start : goal.returns-then-is_start
 returns-then-is_start c =

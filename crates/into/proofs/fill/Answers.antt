@@ -9,29 +9,18 @@ pub loop-s-init : goal.loop-s-init
 loop-s-init c = filling_none _ _ _
 
 -- ---- there is no state more
-pub overflow_add-result : goal.overflow_add-result
-overflow_add-result c =
-    omega (arith, filling_small c.requires c.loop-s.invariant)
-
 pub returns-in_default : goal.returns-in_default
 returns-in_default c =
     filled _ _ _ _ _ _ c.loop-s.invariant _
     (is_between _ _ _ _ (sym (ap answered c.in_default.is) ∙ c.next-answer.ensures)) c.clear_behind.ensures
 
 -- ---- there is one, and no room for it
-pub overflow_add-result-then-count-store : goal.overflow_add-result-then-count-store
-overflow_add-result-then-count-store c =
-    omega (arith, filling_small c.requires c.loop-s.invariant)
-
 pub returns-then-count-store : goal.returns-then-count-store
 returns-then-count-store c =
     overfull _ _ _ _ _ _ c.loop-s.invariant _ _
     (is_between _ _ _ _ (sym (ap answered c.in-State.is) ∙ c.next-answer.ensures)) (omega arith) c.clear.ensures
 
 -- ---- it is written
-pub bounds-store-count : goal.bounds-store-count
-bounds-store-count c = omega arith
-
 pub loop-s-preserved : goal.loop-s-preserved
 loop-s-preserved c =
     filling_more _ _ _ _ _ _ c.loop-s.invariant _
