@@ -6,17 +6,13 @@ use Rattle.aiger.specs.Text.{latches_of}
 use Rattle.aiger.proofs.Threes.{threes_end}
 use Rattle.aiger.proofs.Entering.{fixed_more, fixed_same, starts_many}
 use Rattle.aiger.proofs.clauses.fixed_starts.Goals as goal
-use Rattle.aiger.proofs.clauses.fixed_starts.Goals.{then-latches-i-le1, else-latches-i-le1}
 
 pub loop-i-preserved : goal.loop-i-preserved
 loop-i-preserved c =
-    let l = c.loop-i in
     let latches = c.args.latches.now in
+    let i = c.loop-i.i in
     let row = c.loop-i-test.true in
-    elim c.if-latches-i-le1.branch [
-      | then-latches-i-le1 w ↦ (omega arith, omega arith, omega (arith, l.invariant.2, fixed_more latches l.i row w.if-latches-i-le1.true))
-      | else-latches-i-le1 w ↦ (omega arith, omega arith, omega (arith, l.invariant.2, fixed_same latches l.i row w.if-latches-i-le1.false))
-    ]
+    grind (arith, fixed_more latches i row, fixed_same latches i row)
 
 pub returns : goal.returns
 unfolding fixed
