@@ -42,6 +42,13 @@ use Rattle.aiger.proofs.Knowing.{starts_known, gates_known}
 pub starts_most : (latches : List ℕ) → length latches ≤ 96 → length (start_list latches) ≤ 128
 starts_most latches h = omega (arith, starts_many latches, fixed_le (latches_of latches), latches_many latches)
 
+-- the last refusals, by their tests
+pub last_by : (h : Header) (latches : List ℕ) (a b d : ℕ) {x y z : Bool} → (eqb h.outputs 0 && eqb h.bads 0) ≡ x
+    → short h (length (start_list latches)) a b d ≡ y → ltb most_clauses (2 * h.latches + shared_count h) ≡ z
+    → last_refusal h latches a b d ≡ (26 if x else 32 if y else 2 if z)
+unfolding last_refusal
+last_by h latches a b d p q r = rw (p, q, r)
+
 -- ---- what is held
 module _ {text : List ℕ} {r : Reading} {rows : List ℕ} (h : Held text r rows) where
   abbrev H : Header

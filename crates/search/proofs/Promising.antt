@@ -13,7 +13,7 @@ use Rattle.system.specs.System.{System, model, refusal_of}
 use Rattle.system.proofs.Refusals.{size_right, refusal_none}
 use Rattle.call.specs.Call.{Stores, wrong_stores, refused, Said, says_safe, says_unsafe, gives_up, refuses, leaves, ended, rounds, called}
 use Rattle.search.specs.Lent.{verdict_of}
-use Rattle.search.specs.Inner.{Lends, Ends, Closes}
+use Rattle.search.specs.Inner.{Lends, Ends, Closing, Closes}
 use Rattle.call.specs.Promise.{number_of, said_of, questions_of, count_of, result_of, Promised}
 use Rattle.search.specs.declared.react.Verdict.{Verdict}
 use Rattle.call.specs.declared.Outcome.{Outcome}
@@ -38,6 +38,10 @@ module _ (s s' : Stores) (w : Lengths s s') where
   ended_same q (safe evidence) = rw (leaves_same evidence [])
   ended_same q (unsafe path) = rw (leaves_same [] path)
   ended_same q (gave_up why) = rw (leaves_same [] [])
+
+-- what `close` requires, since a run keeps the stores' lengths
+pub ends_closing : {n room : ℕ} {ending : ic3.Ending} {v : Verdict} {asked : ℕ} {s : Stores} → Ends n room ending v asked s → Closing v s
+ends_closing w = record { same = w.lends.levels ∙ sym w.lends.states; counted = w.counted }
 
 -- ---- the promise
 module _ (y : System) (lent : Stores) (allowance : ℕ) where
