@@ -5,8 +5,15 @@ use mathlib.Core.Path.{refl, sym}
 use native.Mathlib.Omega.{arith}
 use Rattle.line.proofs.Placing.{width_most, length_size, length_count, length_clause}
 use Rattle.line.proofs.Numbers.{number_two}
-use Rattle.line.proofs.Saying.{number_within, sum_wrong, place_wrong, length_wrong, right_at, size_said, count_said, clause_said}
+use Rattle.line.proofs.Saying.{Right, number_within, sum_wrong, place_wrong, length_wrong, right_at, size_said, count_said, clause_said}
 use Rattle.line.proofs.parse.Goals as goal
+use Rattle.line.proofs.parse.Goals.{Else-count-length_for}
+
+-- behind the last test that refuses: a frame whose sum, kind and length are right
+right : (c : Else-count-length_for) → Right c.args.line.now c.frame_length-count.result c.args.stage c.byte_at-kind.result
+right c =
+    right_at _ _ _ c.frame_length-count.ensures c.if-count-eq0.false c.sum_of.ensures c.if-sum_of-ne0.false
+    c.byte_at-kind.ensures c.in_place.ensures c.if-not-in_place.false c.length_for.ensures c.if-count-length_for.false
 
 pub returns-then-count-eq0 : goal.returns-then-count-eq0
 returns-then-count-eq0 c = sym (c.frame_length-count.ensures.malformed c.if-count-eq0.true _)
@@ -29,8 +36,7 @@ pub byte_at-requires : goal.byte_at-requires
 byte_at-requires c = omega (arith, length_size _ c.if-kind-eq0.true)
 
 pub returns-then-kind-eq0 : goal.returns-then-kind-eq0
-returns-then-kind-eq0 c = size_said (right_at _ _ _ c.frame_length-count.ensures c.if-count-eq0.false c.sum_of.ensures c.if-sum_of-ne0.false
-    c.byte_at-kind.ensures c.in_place.ensures c.if-not-in_place.false c.length_for.ensures c.if-count-length_for.false) c.if-kind-eq0.true c.byte_at.ensures
+returns-then-kind-eq0 c = size_said (right (goal.at.returns-then-kind-eq0 c).Else-count-length_for) c.if-kind-eq0.true c.byte_at.ensures
 
 pub number_at-requires : goal.number_at-requires
 number_at-requires c = number_within _ _ c.frame_length-count.ensures 1 2 refl (omega (arith, length_count _ c.if-kind-eq15.true)) (omega arith)
@@ -41,8 +47,7 @@ overflow_cast-result c =
     record { fits = omega (arith, number_two _ _ within c.number_at.ensures) }
 
 pub returns-then-kind-eq15 : goal.returns-then-kind-eq15
-returns-then-kind-eq15 c = count_said (right_at _ _ _ c.frame_length-count.ensures c.if-count-eq0.false c.sum_of.ensures c.if-sum_of-ne0.false
-    c.byte_at-kind.ensures c.in_place.ensures c.if-not-in_place.false c.length_for.ensures c.if-count-length_for.false) c.if-kind-eq15.true c.number_at.ensures
+returns-then-kind-eq15 c = count_said (right (goal.at.returns-then-kind-eq15 c).Else-count-length_for) c.if-kind-eq15.true c.number_at.ensures
 
 pub number_at-requires-2 : goal.number_at-requires-2
 number_at-requires-2 c =
@@ -64,6 +69,5 @@ number_at-requires-3 c =
 
 pub returns : goal.returns
 returns c =
-    clause_said (right_at _ _ _ c.frame_length-count.ensures c.if-count-eq0.false c.sum_of.ensures c.if-sum_of-ne0.false
-    c.byte_at-kind.ensures c.in_place.ensures c.if-not-in_place.false c.length_for.ensures c.if-count-length_for.false) c.if-kind-eq0.false c.if-kind-eq15.false c.mask_width-width.ensures
+    clause_said (right (goal.at.returns c).Else-count-length_for) c.if-kind-eq0.false c.if-kind-eq15.false c.mask_width-width.ensures
     c.number_at-2.ensures c.number_at-3.ensures

@@ -1,4 +1,4 @@
-use Prim.Native.Nat.{◌+◌, ◌*◌, ◌≤◌}
+use Prim.Native.Nat.{ℕ, ◌+◌, ◌*◌, ◌≤◌}
 use mathlib.Core.Path.{sym, ap, ◌∙◌}
 use native.Mathlib.Omega.{arith}
 use borrow.Author.Rules.{rules}
@@ -14,7 +14,7 @@ use Rattle.question.proofs.More.{more_sound, more_falls}
 use Rattle.question.proofs.Solving.{more_passes, forced, at_zero, zero_enough, refuted}
 use Rattle.question.proofs.Along.{Led, led_none, led_few, led_within, led_lent, led_next, led_more}
 use Rattle.question.proofs.engine.+attempt_settle.Goals as goal
-use Rattle.question.proofs.engine.+attempt_settle.Goals.{settle-in-Failed, settle-in-Forced, settle-in-Rest+then-bits, settle-in-Rest+else-bits}
+use Rattle.question.proofs.engine.+attempt_settle.Goals.{settle-in-Failed, settle-in-Forced, settle-in-Rest+then-bits, settle-in-Rest+else-bits, settle-Joined-look}
 
 -- no more entries than 128
 few : width ≤ 128
@@ -75,18 +75,22 @@ settle-resolve_along-requires t c =
     let within : 4 * c.loop-reason.noted ≤ length c.loop-reason.trail = led_within c.loop-reason.invariant (omega arith) in
     omega arith
 
-pub settle-returns-in-Failed-said : goal.settle-returns-in-Failed-said
-settle-returns-in-Failed-said t c =
-    let P = fulfils (lent c.args.within c.args.whole c.args.levels c.args.i) in
+-- the trail leads to where the turn came, whichever way it went
+leads : (t : ℕ) (c : settle-Joined-look t)
+    → Led width (fulfils (lent c.args.within c.args.whole c.args.levels c.args.i)) (setting c.args.s) c.match-look.trail c.loop-reason.noted
+    (setting c.loop-reason.r)
+leads t c =
     let L = c.loop-reason.invariant in
-    let leads : Led width P (setting c.args.s) c.match-look.trail c.loop-reason.noted (setting c.loop-reason.r) =
     elim c.match-look.branch [
       | settle-in-Failed w ↦ rw w.trail-is L
       | settle-in-Forced w ↦ rw w.trail-is L
       | settle-in-Rest+then-bits w ↦ rw w.trail-is L
       | settle-in-Rest+else-bits w ↦ rw w.trail-is (led_lent L _ (led_within L (omega arith)))
-    ] in
-    rw c.resolve_along.ensures (leads.reasons _ (search rules))
+    ]
+
+pub settle-returns-in-Failed-said : goal.settle-returns-in-Failed-said
+settle-returns-in-Failed-said t c =
+    rw c.resolve_along.ensures ((leads t (goal.at.settle-returns-in-Failed-said t c).Joined-look).reasons _ (search rules))
 
 pub settle-note-requires : goal.settle-note-requires
 settle-note-requires t c =
@@ -113,12 +117,5 @@ settle-loop-reason-preserved t c =
     let P = fulfils (lent c.args.within c.args.whole c.args.levels c.args.i) in
     let q = c.in-Forced-said in
     let F : Forces width P (setting c.loop-reason.r) (word_of q.reason) (word_of q.bit) (word_of q.value) = search rules in
-    let L = c.loop-reason.invariant in
-    let leads : Led width P (setting c.args.s) c.match-look.trail c.loop-reason.noted (setting c.loop-reason.r) =
-    elim c.match-look.branch [
-      | settle-in-Failed w ↦ rw w.trail-is L
-      | settle-in-Forced w ↦ rw w.trail-is L
-      | settle-in-Rest+then-bits w ↦ rw w.trail-is L
-      | settle-in-Rest+else-bits w ↦ rw w.trail-is (led_lent L _ (led_within L (omega arith)))
-    ] in
-    rw (c.settle_at-r.ensures, c.note.ensures) (led_more leads _ _ F (led_next leads _ _ F (omega arith)))
+    let L = leads t (goal.at.settle-loop-reason-preserved t c).Joined-look in
+    rw (c.settle_at-r.ensures, c.note.ensures) (led_more L _ _ F (led_next L _ _ F (omega arith)))

@@ -7,6 +7,13 @@ use Rattle.search.specs.Inner.{Absent}
 use Rattle.search.proofs.Rounds.{tested_raises, tested_on, tested_stops}
 use Rattle.search.proofs.Taken.{moves_to}
 use Rattle.search.proofs.react.tested.Goals as goal
+use Rattle.search.proofs.react.tested.Goals.{After-last_at}
+
+-- where the first walk passed the last entry, none from j on sits at the level
+untested : (c : After-last_at) → Absent c.args.levels.now c.args.j c.args.count c.args.i
+untested c =
+    let all : c.next_at-next.result ≡ c.args.count = omega (arith, c.next_at-next.ensures.within) in
+    rw all at c.next_at-next.ensures.before
 
 pub returns-then-next-count : goal.returns-then-next-count
 returns-then-next-count c =
@@ -15,20 +22,13 @@ returns-then-next-count c =
 
 pub returns-then-last_at-gt0 : goal.returns-then-last_at-gt0
 returns-then-last_at-gt0 c =
-    let a = c.args in
-    let first = c.next_at-next in
     let last = c.last_at in
-    let all : first.result ≡ a.count = omega (arith, first.ensures.within) in
-    let untested : Absent a.levels.now a.j a.count a.i = rw all at first.ensures.before in
-    λ ss path w. moves_to (sym (tested_on _ _ _ _ _ _ (omega arith) untested (last.result - 1) (omega (arith, last.ensures.within))
-    (last.ensures.here (omega arith)))) (c.round.ensures ss path)
+    λ ss path w. moves_to (sym (tested_on _ _ _ _ _ _ (omega arith) (untested (goal.at.returns-then-last_at-gt0 c).After-last_at)
+    (last.result - 1) (omega (arith, last.ensures.within)) (last.ensures.here (omega arith)))) (c.round.ensures ss path)
 
 pub returns : goal.returns
 returns c =
-    let a = c.args in
-    let first = c.next_at-next in
-    let all : first.result ≡ a.count = omega (arith, first.ensures.within) in
-    let untested : Absent a.levels.now a.j a.count a.i = rw all at first.ensures.before in
     let none : c.last_at.result ≡ 0 = omega arith in
-    let gone : Absent a.levels.now 0 a.j a.i = rw none at c.last_at.ensures.behind in
-    λ ss path w. moves_to (sym (tested_stops _ _ _ _ _ _ (omega arith) untested gone)) (c.judge.ensures ss path)
+    let gone : Absent c.args.levels.now 0 c.args.j c.args.i = rw none at c.last_at.ensures.behind in
+    λ ss path w. moves_to (sym (tested_stops _ _ _ _ _ _ (omega arith) (untested (goal.at.returns c).After-last_at) gone))
+    (c.judge.ensures ss path)
