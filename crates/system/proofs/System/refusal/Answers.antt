@@ -1,9 +1,9 @@
--- `system::refusal` meets its contract: the three tests are made in their order, and each return knows that the tests before it were false. Past the
+-- `System::refusal` meets its contract: the three tests are made in their order, and each return knows that the tests before it were false. Past the
 -- first of them n is at most 32 and w at most 64, which the third asks for. Assumes nothing.
 use mathlib.Core.Path.{sym, ◌∙◌}
 use Rattle.system.specs.System.{refusal_of}
 use Rattle.system.proofs.Refusals.{size_right}
-use Rattle.system.proofs.refusal.Goals as goal
+use Rattle.system.proofs.System.refusal.Goals as goal
 
 pub returns-then-wrong_size : goal.returns-then-wrong_size
 unfolding refusal_of
