@@ -2,14 +2,11 @@
 use Rattle.house.proofs.Reading.{cleared_lie, reads_file, reads_refused}
 use Rattle.house.proofs.read.Goals as goal
 
-pub read_lines-house-requires : goal.read_lines-house-requires
-read_lines-house-requires c =
-    cleared_lie _ _ c.clear_stores.ensures
+pub take_lines-requires : goal.take_lines-requires
+take_lines-requires c = cleared_lie _ _ c.clear_stores.ensures
 
-pub returns-then-house-ne0 : goal.returns-then-house-ne0
-returns-then-house-ne0 c =
-    reads_refused _ _ _ _ _ c.clear_stores.ensures c.read_lines-house.ensures c.if-house-ne0.true _ c.clear_stores-then-house-ne0.ensures
+pub returns-in-Ok : goal.returns-in-Ok
+returns-in-Ok c = reads_file _ _ _ _ c.clear_stores.ensures _ c.in-Ok.ensures
 
-pub returns-else-house-ne0 : goal.returns-else-house-ne0
-returns-else-house-ne0 c =
-    reads_file _ _ _ _ _ c.clear_stores.ensures c.read_lines-house.ensures c.if-house-ne0.false
+pub returns-in-Err : goal.returns-in-Err
+returns-in-Err c = reads_refused _ _ _ _ c.clear_stores.ensures _ c.in-Err.ensures _ c.clear_stores-in-Err.ensures
