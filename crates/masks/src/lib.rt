@@ -7,7 +7,7 @@ ghost use Rattle.std.specs.Int.Bits.{bit_and, bit_or};
 ghost use Rattle.masks.specs.Word.{width, word_of, OneBit};
 
 // Positions of a pair, the state's bits in its low half and the same bits one step later in its high half; and of the wires.
-#[derive(Clone, Copy)]
+#[derive(Clone, Copy, Debug, PartialEq, Eq)]
 pub struct Mask {
     pub pair: u64,
     pub wires: u64,
@@ -54,7 +54,7 @@ pub fn without(a: Mask, b: Mask) -> Mask
 pub fn same(a: Mask, b: Mask) -> bool
     ensures { result ≡ eqb (word_of a) (word_of b) }
 {
-    a.pair == b.pair && a.wires == b.wires
+    a == b
 }
 
 // Whether a mask has no position.
