@@ -34,12 +34,10 @@ fn clash(list: &[u64], j: usize, k: usize, wire: u64) -> bool
 fn clashes(list: &[u64], j: usize, far: u64, wire: u64) -> bool
     requires { 4 * j + 3 < length list.now }
 {
-    let mut k = 0;
-    while k < list.len() / 4 {
+    for k in 0..list.len() / 4 {
         if wants(list, k, 3, far, wire) && !clash(list, j, k, wire) {
             return false;
         }
-        k += 1;
     }
     true
 }
@@ -49,8 +47,7 @@ fn judge(list: &[u64], wire: u64, f: Far) -> Far {
     let count = list.len() / 4;
     let far = f.wires;
     let mut left = f.left;
-    let mut j = 0;
-    while j < count {
+    for j in 0..count {
         if left < count {
             return Far {
                 wires: far,
@@ -63,7 +60,6 @@ fn judge(list: &[u64], wire: u64, f: Far) -> Far {
                 return Far { wires: far, left };
             }
         }
-        j += 1;
     }
     Far {
         wires: far | wire,
@@ -75,6 +71,7 @@ fn judge(list: &[u64], wire: u64, f: Far) -> Far {
 fn more(list: &[u64], w: u32, f: Far) -> Far {
     let mut found = f;
     let mut k = w;
+    // Stays: a `for` ends by its form, and the must-fail edit `judges_the_wires_for_ever` is this loop without its step.
     while 0 < k {
         k -= 1;
         let wire = masks::power(k);
@@ -91,10 +88,8 @@ pub(crate) fn first(list: &[u64], w: u32) -> u64 {
         wires: 0,
         left: MOST_LOOKS,
     };
-    let count = if w < 64 { w } else { 64 };
-    let mut rounds = count;
-    while 0 < rounds {
-        rounds -= 1;
+    let count = w.min(64);
+    for _ in 0..count {
         let found = more(list, count, far);
         if found.wires == far.wires {
             return !far.wires;
