@@ -71,7 +71,7 @@ fn start_free(start: &[u64], states: &[u64]) -> bool
 }
 
 // The least bad state that is not listed. A state with no level beside it is excluded from every R(i) above R(0).
-fn bad_outside(free: Free, table: &[u64; TABLE], bad: &[u64], states: &[u64]) -> question::Answer
+fn bad_outside(free: Free, table: &[u64; TABLE], bad: &[u64], states: &[u64]) -> Option<u64>
     requires { free.n ≤ 32 }
     ensures { answered result ≡ outside (2 ^ free.n) states.now (some_true free.w bad.now) }
 {
@@ -86,7 +86,7 @@ fn step_outside(
     step: &[u64],
     states: &[u64],
     t: u64,
-) -> question::Answer
+) -> Option<u64>
     requires { free.n ≤ 32 }
     ensures { answered result ≡ outside (2 ^ free.n) states.now (λ s. some_true free.w step.now (pair s t)) }
 {
@@ -104,7 +104,7 @@ fn closed(free: Free, table: &[u64; TABLE], step: &[u64], states: &[u64]) -> Che
     while j < states.len() {
         let answer = step_outside(free, table, step, states, states[j]);
         asked += 1;
-        let question::Answer::Nothing = answer else {
+        let None = answer else {
             return Checked::No(asked);
         };
         j += 1;
@@ -133,7 +133,7 @@ pub fn check_excluded(
     let bad_table = order::table(bad, w);
     let free = Free { n, w };
     let answer = bad_outside(free, &bad_table, bad, states);
-    let question::Answer::Nothing = answer else {
+    let None = answer else {
         return Checked::No(1);
     };
     let step_table = order::table(step, w);

@@ -34,7 +34,7 @@ fn refusal(n: u32, w: u32, start: &[u64], step: &[u64], bad: &[u64], state: u64)
 }
 
 // The least state not below `from` that steps to the given one: R(1) with nothing stored is every state.
-fn next(free: Free, table: &[u64; TABLE], step: &[u64], state: u64, from: u64) -> question::Answer
+fn next(free: Free, table: &[u64; TABLE], step: &[u64], state: u64, from: u64) -> Option<u64>
     requires { free.n ≤ 32 }
     ensures { answered result ≡ least (2 ^ free.n) (λ s. not_below from s && some_true free.w step.now (pair s state)) }
 {
@@ -61,7 +61,7 @@ fn fill(free: Free, table: &[u64; TABLE], step: &[u64], state: u64, store: &mut 
     let mut from = 0;
     loop {
         let answer = next(free, table, step, state, from);
-        let question::Answer::State(s) = answer else {
+        let Some(s) = answer else {
             stores::clear_behind(store, count);
             return Listing {
                 number: 0,

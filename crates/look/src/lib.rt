@@ -74,26 +74,24 @@ fn clause(c: Clause, s: Settled, waiting: u64) -> Look
     }
 }
 
-// The clauses of a list from `from` up to below `end`. Where one says something, these blocks wait still: `waiting`, with clauses left behind it, or
-// `others`.
-fn scan_part(list: &[u64], from: usize, end: usize, s: Settled, waiting: u64, others: u64) -> Look
-    requires { end ≤ length list.now / 4 }
+// The clauses of a list. Where one says something, these blocks wait still: `waiting`, with clauses left behind it, or `others`.
+fn scan_part(list: &[u64], s: Settled, waiting: u64, others: u64) -> Look
     ensures { Scanned (word_true list.now) s result }
 {
-    let mut j = from;
-    while j < end {
+    let mut left = list;
+    while let [ones, zeros, wire_ones, wire_zeros, rest @ ..] = left {
         let c = Clause {
             ones: Mask {
-                pair: list[4 * j],
-                wires: list[4 * j + 2],
+                pair: *ones,
+                wires: *wire_ones,
             },
             zeros: Mask {
-                pair: list[4 * j + 1],
-                wires: list[4 * j + 3],
+                pair: *zeros,
+                wires: *wire_zeros,
             },
         };
-        j += 1;
-        let look = clause(c, s, if j < end { waiting } else { others });
+        left = rest;
+        let look = clause(c, s, if left.is_empty() { others } else { waiting });
         let Look::Rest = look else {
             return look;
         };
@@ -109,17 +107,13 @@ fn scan(list: &[u64], waiting: u64, s: Settled) -> Look
     let size = order::size(count);
     let mut left = waiting;
     while 0 < left {
-        let from = size * u64::trailing_zeros(left) as usize;
+        let from = size * left.trailing_zeros() as usize;
         if count <= from {
             return Look::Rest;
         }
-        let end = if size < count - from {
-            from + size
-        } else {
-            count
-        };
+        let end = count.min(from + size);
         let others = left & (left - 1);
-        let look = scan_part(list, from, end, s, left, others);
+        let look = scan_part(&list[4 * from..4 * end], s, left, others);
         let Look::Rest = look else {
             return look;
         };
@@ -132,7 +126,7 @@ fn scan(list: &[u64], waiting: u64, s: Settled) -> Look
 pub fn scan_all(list: &[u64], s: Settled) -> Look
     ensures { Scanned (word_true list.now) s result }
 {
-    scan_part(list, 0, list.len() / 4, s, 0, 0)
+    scan_part(list, s, 0, 0)
 }
 
 // The part of a mask that is the state's.
@@ -149,17 +143,15 @@ fn low_part(m: Mask) -> Mask
 fn scan_low(list: &[u64], s: Settled) -> Look
     ensures { Scanned (λ w. word_true list.now (state_of w)) s result }
 {
-    let Settled { bits, values } = s;
     let above = Mask {
         pair: ALL - STATE,
         wires: ALL,
     };
     let lowered = Settled {
-        bits: masks::or(bits, above),
-        values: low_part(values),
+        bits: masks::or(s.bits, above),
+        values: low_part(s.values),
     };
-    let look = scan_all(list, lowered);
-    match look {
+    match scan_all(list, lowered) {
         Look::Rest => Look::Rest,
         Look::Failed(reason) => Look::Failed(low_part(reason)),
         Look::Forced {
@@ -180,26 +172,17 @@ fn scan_low(list: &[u64], s: Settled) -> Look
 fn at_level(levels: &[u32], j: usize, i: u32) -> bool
     ensures { result ≡ leb i (get_or levels.now j i) }
 {
-    if j < levels.len() {
-        return i <= levels[j];
-    }
-    true
+    levels.get(j).is_none_or(|level| i <= *level)
 }
 
 // Whether the state s is stored with a level of i or more.
 pub fn is_excluded(states: &[u64], levels: &[u32], i: u32, s: u64) -> bool
     ensures { result ≡ excluded i states.now levels.now s }
 {
-    let mut j = 0;
-    while j < states.len() {
-        if states[j] == s {
-            if at_level(levels, j, i) {
-                return true;
-            }
-        }
-        j += 1;
-    }
-    false
+    states
+        .iter()
+        .enumerate()
+        .any(|(j, state)| *state == s && at_level(levels, j, i))
 }
 
 // With the whole state settled: a failure at an excluded state rests on the state's bits alone. With no bit open at all the word is tested next, the
@@ -208,8 +191,7 @@ fn scan_state(states: &[u64], levels: &[u32], i: u32, s: Settled) -> Look
     requires { StateSettled s }
     ensures { Scanned (allowed states.now levels.now i) s result }
 {
-    let Settled { bits: _, values } = s;
-    if is_excluded(states, levels, i, values.pair % HALF) {
+    if is_excluded(states, levels, i, s.values.pair % HALF) {
         return Look::Failed(Mask {
             pair: STATE,
             wires: 0,
@@ -222,36 +204,30 @@ fn scan_state(states: &[u64], levels: &[u32], i: u32, s: Settled) -> Look
 fn scan_states(states: &[u64], levels: &[u32], i: u32, s: Settled) -> Look
     ensures { Scanned (allowed states.now levels.now i) s result }
 {
-    let Settled { bits, values: _ } = s;
-    let open = !bits.pair % HALF;
+    let open = !s.bits.pair % HALF;
     if open == 0 {
         return scan_state(states, levels, i, s);
     }
     if open & (open - 1) != 0 {
         return Look::Rest;
     }
-    let mut j = 0;
-    while j < states.len() {
-        let state = states[j];
-        if state < HALF {
-            if at_level(levels, j, i) {
-                let c = Clause {
-                    ones: Mask {
-                        pair: STATE - state,
-                        wires: 0,
-                    },
-                    zeros: Mask {
-                        pair: state,
-                        wires: 0,
-                    },
-                };
-                let look = clause(c, s, 0);
-                let Look::Rest = look else {
-                    return look;
-                };
-            }
+    for (j, state) in states.iter().enumerate() {
+        if *state < HALF && at_level(levels, j, i) {
+            let c = Clause {
+                ones: Mask {
+                    pair: STATE - *state,
+                    wires: 0,
+                },
+                zeros: Mask {
+                    pair: *state,
+                    wires: 0,
+                },
+            };
+            let look = clause(c, s, 0);
+            let Look::Rest = look else {
+                return look;
+            };
         }
-        j += 1;
     }
     Look::Rest
 }

@@ -216,8 +216,8 @@ fn ask(
         question::bad_in(free, &order, start, list, states, levels, i, from)
     };
     match r {
-        question::Answer::State(state) => state,
-        question::Answer::Nothing => NONE,
+        Some(state) => state,
+        None => NONE,
     }
 }
 

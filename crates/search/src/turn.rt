@@ -35,7 +35,7 @@ fn bad_state(
     levels: &[u32],
     count: usize,
     i: u32,
-) -> question::Answer
+) -> Option<u64>
     requires { Holds count states.now levels.now }
     ensures { answered result
         ≡ bad_in f.n f.w start.now bad.now (take count states.now) (take count levels.now) i 0 }
@@ -63,7 +63,7 @@ fn step_state(
     count: usize,
     i: u32,
     s: u64,
-) -> question::Answer
+) -> Option<u64>
     requires { Holds count states.now levels.now }
     ensures { answered result
         ≡ step_in f.n f.w start.now step.now (take count states.now) (take count levels.now) i s 0 }
@@ -100,8 +100,8 @@ fn look(
 {
     let answer = bad_state(f, table, start, bad, states, levels, count, N);
     match answer {
-        question::Answer::State(s) => found(path, N, count, s),
-        question::Answer::Nothing => round(levels, N + 1, count, 1),
+        Some(s) => found(path, N, count, s),
+        None => round(levels, N + 1, count, 1),
     }
 }
 
@@ -126,8 +126,8 @@ fn settle(
     let s = path[wide(k) + 1];
     let answer = step_state(f, table, start, step, states, levels, count, k, s);
     match answer {
-        question::Answer::State(t) => deeper(path, N, count, k, t),
-        question::Answer::Nothing => blocked(states, levels, N, count, k, s),
+        Some(t) => deeper(path, N, count, k, t),
+        None => blocked(states, levels, N, count, k, s),
     }
 }
 
@@ -152,8 +152,8 @@ fn raise(
     let s = states[j];
     let answer = step_state(f, table, start, step, states, levels, count, i, s);
     match answer {
-        question::Answer::State(_) => {}
-        question::Answer::Nothing => {
+        Some(_) => {}
+        None => {
             levels[j] = i + 1;
         }
     }
@@ -235,7 +235,7 @@ fn all_turns(
 }
 
 // The question for a start state: a state of R(0) of which an empty list is true.
-fn start_state(f: Free, table: &[u64; TABLE], start: &[u64], levels: &[u32]) -> question::Answer
+fn start_state(f: Free, table: &[u64; TABLE], start: &[u64], levels: &[u32]) -> Option<u64>
     ensures { answered result ≡ least (2 ^ min f.n 32) (λ s. list_true start.now s 0) }
 {
     let free = Free { n: f.n, w: 0 };
@@ -267,7 +267,7 @@ pub(super) fn searched(
         };
     }
     let answer = start_state(f, step_table, start, levels);
-    let question::Answer::State(_) = answer else {
+    let Some(_) = answer else {
         return Ending {
             verdict: Verdict::GaveUp(Why::NoStart),
             questions: 1,

@@ -60,8 +60,8 @@ fn ask(
         question::bad_in(free, order, start, list, states, levels, q.i, q.from)
     };
     match answer {
-        question::Answer::State(s) => s,
-        question::Answer::Nothing => NONE,
+        Some(s) => s,
+        None => NONE,
     }
 }
 

@@ -31,5 +31,5 @@ pub returns : goal.returns
 returns c =
     excluded_closed _ _ (sym c.refusal-number.ensures ∙ c.if-number-ne0.false)
     (sym c.start_free.ensures ∙ c.if-not-start_free.false)
-    _ (sym c.bad_outside-answer.ensures ∙ ap answered c.in-Nothing.is)
+    _ (sym c.bad_outside-answer.ensures ∙ ap answered c.in-None.is)
     c.closed.ensures

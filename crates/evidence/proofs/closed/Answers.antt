@@ -14,7 +14,7 @@ loop-j-preserved c =
     let inv = c.loop-j.invariant in (
       omega arith,
       omega (arith, inv.1),
-      inv.2 ∙ closed_passes _ _ _ _ _ _ c.loop-j-test.true (sym c.step_outside-answer.ensures ∙ ap answered c.in-Nothing.is),
+      inv.2 ∙ closed_passes _ _ _ _ _ _ c.loop-j-test.true (sym c.step_outside-answer.ensures ∙ ap answered c.in-None.is),
     )
 
 pub returns : goal.returns

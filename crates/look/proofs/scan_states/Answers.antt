@@ -1,3 +1,5 @@
+-- `look::scan_states` meets its contract. Whatever `clause` says of an entry's clause, the store says; where it says nothing the loop goes on. Assumes
+-- nothing.
 use mathlib.Core.Path.{sym, ◌∙◌}
 use native.Mathlib.Omega.{arith}
 use Rattle.masks.proofs.Words.{first_word}
@@ -12,6 +14,6 @@ scan_state-requires c =
 pub returns-in_default : goal.returns-in_default
 returns-in_default c =
     let a = c.args in
-    entry_scanned a.i a.states.now a.levels.now _ c.loop-j-test.true
+    entry_scanned a.i a.states.now a.levels.now _ (omega arith)
     (sym c.at_level.ensures ∙ c.if-at_level.true) c.if-state-lt-HALF.true
     a.s c.clause-look.result c.clause-look.ensures

@@ -13,14 +13,14 @@ round-requires c =
     let h = (ready_asks c.requires).holds in
     record { within = rw h.same h.within; above = omega arith; below = omega arith }
 
-pub returns-in-State : goal.returns-in-State
-returns-in-State c =
+pub returns-in-Some : goal.returns-in-Some
+returns-in-Some c =
     let w = c.requires in
-    let e = rw c.in-State.is at c.bad_state-answer.ensures in
+    let e = rw c.in-Some.is at c.bad_state-answer.ensures in
     λ step. moves_to (look_some _ _ _ _ (ready_asks w) _ _ _ e) (c.found.ensures _ _)
 
-pub returns-in-Nothing : goal.returns-in-Nothing
-returns-in-Nothing c =
+pub returns-in-None : goal.returns-in-None
+returns-in-None c =
     let w = c.requires in
-    let e = rw c.in-Nothing.is at c.bad_state-answer.ensures in
+    let e = rw c.in-None.is at c.bad_state-answer.ensures in
     λ step. moves_to (look_none _ _ _ _ (ready_asks w) _ _ e) (c.round.ensures _ _)

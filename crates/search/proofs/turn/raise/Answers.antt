@@ -5,7 +5,7 @@ use Rattle.system.specs.System.{system_of}
 use Rattle.search.proofs.Taken.{moves_to}
 use Rattle.search.proofs.Raising.{entry_level, raised_tidy, raise_not, raise_up}
 use Rattle.search.proofs.turn.raise.Goals as goal
-use Rattle.search.proofs.turn.raise.Goals.{in-State, in-Nothing}
+use Rattle.search.proofs.turn.raise.Goals.{in-Some, in-None}
 
 pub tested-requires : goal.tested-requires
 tested-requires c =
@@ -21,10 +21,10 @@ returns c =
     let e = c.step_state-answer.ensures in
     λ bad path. let y = system_of a.f.n a.f.w a.start.now a.step.now bad in
     elim c.match-answer.branch [
-      | in-State w ↦
-          moves_to (rw w.levels-is (raise_not y _ _ _ _ _ _ c.requires _ _ (rw w.in-State.is at e)))
+      | in-Some w ↦
+          moves_to (rw w.levels-is (raise_not y _ _ _ _ _ _ c.requires _ _ (rw w.in-Some.is at e)))
           (c.tested.ensures _ path (rw w.levels-is c.requires.asks.tidy))
-      | in-Nothing w ↦
-          moves_to (rw w.levels-is (raise_up y _ _ _ _ _ _ c.requires _ (rw w.in-Nothing.is at e)))
+      | in-None w ↦
+          moves_to (rw w.levels-is (raise_up y _ _ _ _ _ _ c.requires _ (rw w.in-None.is at e)))
           (c.tested.ensures _ path (rw w.levels-is (raised_tidy c.requires)))
     ]

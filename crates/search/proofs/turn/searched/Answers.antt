@@ -22,4 +22,4 @@ returns c =
     let a = c.args in
     let y = system_of a.f.n a.f.w a.start.now a.step.now a.bad.now in
     let leave : 1 ≤ a.allowance = omega arith in
-    rw (first_searches y c.requires leave _ (rw c.in-State.is at c.start_state-answer.ensures)) at c.all_turns.ensures
+    rw (first_searches y c.requires leave _ (rw c.in-Some.is at c.start_state-answer.ensures)) at c.all_turns.ensures

@@ -14,18 +14,18 @@ blocked-requires c =
     let w = c.requires in
     record { below = omega (arith, w.shape.placed); holds = (ready_asks w).holds }
 
-pub returns-in-State : goal.returns-in-State
-returns-in-State c =
+pub returns-in-Some : goal.returns-in-Some
+returns-in-Some c =
     let a = c.args in
     let w = c.wide.ensures in
-    let e = rw (w, add-one a.k) at (rw c.in-State.is at c.step_state-answer.ensures) in
+    let e = rw (w, add-one a.k) at (rw c.in-Some.is at c.step_state-answer.ensures) in
     λ bad. moves_to (settle_some _ _ _ _ (ready_asks c.requires) _ _ _ _ _ _ e) (c.deeper.ensures _ _)
 
-pub returns-in-Nothing : goal.returns-in-Nothing
-returns-in-Nothing c =
+pub returns-in-None : goal.returns-in-None
+returns-in-None c =
     let a = c.args in
     let w = c.wide.ensures in
-    let told = c.in-Nothing.is in
+    let told = c.in-None.is in
     let e = rw (w, add-one a.k) at (rw told at c.step_state-answer.ensures) in
     let f = rw (w, add-one a.k) at (c.blocked.ensures a.path.now) in
     λ bad. moves_to (settle_none _ _ _ _ (ready_asks c.requires) _ _ _ _ _ e) f

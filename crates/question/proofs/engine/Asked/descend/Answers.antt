@@ -1,4 +1,4 @@
--- `question::descend` meets its contract: the highest open bit of the front is settled at 0 for a word that has a 0 there, the one in hand or one
+-- `question::engine::Asked::descend` meets its contract: the highest open bit of the front is settled at 0 for a word that has a 0 there, the one in hand or one
 -- that is found, and at 1 if none is found. Assumes nothing.
 use mathlib.Core.Path.{sym, ap, ◌∙◌}
 use native.Mathlib.Omega.{arith}
@@ -11,7 +11,7 @@ use Rattle.look.specs.Look.{setting}
 use Rattle.question.proofs.More.{more_sound, more_falls}
 use Rattle.question.proofs.Solving.{at_zero}
 use Rattle.question.proofs.Walk.{descends_zero, in_hand, descends_one}
-use Rattle.question.proofs.descend.Goals as goal
+use Rattle.question.proofs.engine.Asked.descend.Goals as goal
 
 pub returns-then-is_empty : goal.returns-then-is_empty
 returns-then-is_empty c =
@@ -21,8 +21,8 @@ returns-then-is_empty c =
     (descends_zero D c.top_open-bit.ensures _
     (in_hand D c.top_open-bit.ensures (sym c.and.ensures ∙ eqb-true _ _ (sym c.is_empty.ensures ∙ c.if-is_empty.true))))
 
-pub settle-f-requires : goal.settle-f-requires
-settle-f-requires c =
+pub settle-requires : goal.settle-requires
+settle-requires c =
     let D = c.requires.0.stands in
     let e = c.settle_at-zero.ensures ∙ ap (more (setting c.args.d.settled) (word_of c.top_open-bit.result)) zero_word in
     record {
@@ -35,16 +35,16 @@ settle-f-requires c =
       );
     }
 
-pub returns-in-Word : goal.returns-in-Word
-returns-in-Word c =
+pub returns-in-Ok : goal.returns-in-Ok
+returns-in-Ok c =
     let D = c.requires.0.stands in
     let e = c.settle_at-zero.ensures ∙ ap (more (setting c.args.d.settled) (word_of c.top_open-bit.result)) zero_word in
-    rw e (descends_zero D c.top_open-bit.ensures _ (rw (c.in-Word.is, e) at c.settle-f.ensures))
+    rw e (descends_zero D c.top_open-bit.ensures _ (rw e at c.in-Ok.ensures))
 
-pub returns-in-Nothing : goal.returns-in-Nothing
-returns-in-Nothing c =
+pub returns-in-Err : goal.returns-in-Err
+returns-in-Err c =
     let D = c.requires.0.stands in
     let e = c.settle_at-zero.ensures ∙ ap (more (setting c.args.d.settled) (word_of c.top_open-bit.result)) zero_word in
-    rw c.settle_at-one.ensures
-    (descends_one D c.top_open-bit.ensures _ (rw (c.in-Nothing.is, e) at c.settle-f.ensures)
+    rw c.settle_at.ensures
+    (descends_one D c.top_open-bit.ensures _ (rw e at c.in-Err.ensures)
     (λ z. eqb-false _ _ (sym c.is_empty.ensures ∙ c.if-is_empty.false) (c.and.ensures ∙ z)))

@@ -1,17 +1,16 @@
--- `question::least` meets its contract. What is forced at first follows, so it is enough to look for the least front behind it. The loop's invariant is
+-- `question::engine::Asked::least` meets its contract. What is forced at first follows, so it is enough to look for the least front behind it. The loop's invariant is
 -- `Walked`: no word that passes and agreed there is lost, but for those above all that agree now. The measure is the number of open bits. Assumes nothing.
 use Prim.Native.Nat.{◌-◌}
 use lib.Count.{ones}
 use Rattle.masks.specs.Word.{width, word_of}
-use Rattle.look.specs.Condition.{region, fulfils}
 use Rattle.look.specs.Look.{setting}
-use Rattle.question.specs.Engine.{Few}
+use Rattle.question.specs.Engine.{asked_of, Few}
 use Rattle.question.proofs.Walk.{Walked}
-use Rattle.question.proofs.least.Given as goal
+use Rattle.question.proofs.engine.Asked.least.Given as goal
 
 abbrev pub invariant-loop-before : goal.invariant-loop-before
 invariant-loop-before l =
-    Walked width (fulfils (region l.within l.whole l.levels l.i)) l.front (setting l.initial.d.settled) (setting l.d.settled) (word_of l.d.word)
+    Walked width (asked_of l.self) l.front (setting l.initial.d.settled) (setting l.d.settled) (word_of l.d.word)
     × Few l.d.settled
 
 abbrev pub decreases-loop-before : goal.decreases-loop-before

@@ -1,20 +1,22 @@
-use Prim.Native.Nat.{ℕ, ◌+◌, ◌*◌, ◌≤◌}
+use Prim.Native.Nat.{ℕ, ◌≤◌, ◌<◌}
 use mathlib.Core.Path.{sym, ap, ◌∙◌}
 use native.Mathlib.Omega.{arith}
 use borrow.Author.Rules.{rules}
 use borrow.Author.Tests.{eqb-true}
 use lib.Count.{ones}
 use lib.ListN.{length}
+use Rattle.std.proofs.lemmas.List.{length-take-le}
 use Rattle.masks.specs.Word.{width, word_of}
 use Rattle.masks.proofs.Words.{full_word, zero_word}
-use Rattle.look.specs.Condition.{lent, fulfils}
 use Rattle.look.specs.Look.{setting}
 use Rattle.look.specs.Reason.{Forces, Setting, more}
+use Rattle.question.specs.Engine.{asked_of}
 use Rattle.question.proofs.More.{more_sound, more_falls}
 use Rattle.question.proofs.Solving.{more_passes, forced, at_zero, zero_enough, refuted}
+use Rattle.question.specs.declared.trail.Entry.{Entry}
 use Rattle.question.proofs.Along.{Led, led_none, led_few, led_within, led_lent, led_next, led_more}
-use Rattle.question.proofs.engine.+attempt_settle.Goals as goal
-use Rattle.question.proofs.engine.+attempt_settle.Goals.{settle-in-Failed, settle-in-Forced, settle-in-Rest+then-bits, settle-in-Rest+else-bits, settle-Joined-look}
+use Rattle.question.proofs.engine.Asked.+attempt_settle.Goals as goal
+use Rattle.question.proofs.engine.Asked.+attempt_settle.Goals.{settle-in-Failed, settle-in-Forced, settle-in-Rest+then-bits, settle-in-Rest+else-bits, settle-Joined-forced}
 
 -- no more entries than 128
 few : width ≤ 128
@@ -36,18 +38,18 @@ attempt-settle-f-requires t c =
 pub attempt-returns-then-is_empty : goal.attempt-returns-then-is_empty
 attempt-returns-then-is_empty t c =
     let e = c.settle_at.ensures ∙ ap (more (setting c.args.s) (word_of c.pick-bit.result)) zero_word in
-    zero_enough c.requires.begins.valid c.pick-bit.ensures (fulfils _) _ (rw e at c.in-Nothing.ensures)
+    zero_enough c.requires.begins.valid c.pick-bit.ensures (asked_of c.args.self.now) _ (rw e at c.in-Err.ensures)
     (sym c.and.ensures ∙ eqb-true _ _ (sym c.is_empty.ensures ∙ c.if-is_empty.true))
 
-pub attempt-returns-in-Word : goal.attempt-returns-in-Word
-attempt-returns-in-Word t c =
+pub attempt-returns-in-Ok : goal.attempt-returns-in-Ok
+attempt-returns-in-Ok t c =
     let e = c.settle_at.ensures ∙ ap (more (setting c.args.s) (word_of c.pick-bit.result)) zero_word in
-    more_passes (at_zero c.requires.begins.valid c.pick-bit.ensures) (fulfils _) _ (rw e at c.in-Word.ensures)
+    more_passes (at_zero c.requires.begins.valid c.pick-bit.ensures) (asked_of c.args.self.now) _ (rw e at c.in-Ok.ensures)
 
 pub attempt-returns-else-is_empty : goal.attempt-returns-else-is_empty
 attempt-returns-else-is_empty t c =
     let e = c.settle_at.ensures ∙ ap (more (setting c.args.s) (word_of c.pick-bit.result)) zero_word in
-    refuted c.requires.begins.valid c.pick-bit.ensures (rw e at c.in-Nothing.ensures)
+    refuted c.requires.begins.valid c.pick-bit.ensures (rw e at c.in-Err.ensures)
 
 -- ---- `settle`
 pub settle-loop-reason-init : goal.settle-loop-reason-init
@@ -55,9 +57,6 @@ settle-loop-reason-init t c = led_none c.requires.valid
 
 pub settle-test-requires : goal.settle-test-requires
 settle-test-requires t c = record { valid = c.loop-reason.invariant.sound; all = full_word c.loop-reason.r.bits c.if-bits.true }
-
-pub settle-overflow_mul-noted : goal.settle-overflow_mul-noted
-settle-overflow_mul-noted t c = omega (arith, few, led_few c.loop-reason.invariant)
 
 pub settle-offset_bounds-trail-noted : goal.settle-offset_bounds-trail-noted
 settle-offset_bounds-trail-noted t c = omega (arith, few, led_few c.loop-reason.invariant)
@@ -67,21 +66,24 @@ settle-slice_bounds-attempt-count t c = led_within c.loop-reason.invariant (omeg
 
 pub settle-slice_bounds-attempt-start : goal.settle-slice_bounds-attempt-start
 settle-slice_bounds-attempt-start t c =
-    let within : 4 * c.loop-reason.noted ≤ length c.loop-reason.trail = led_within c.loop-reason.invariant (omega arith) in
+    let within : c.loop-reason.noted ≤ length c.loop-reason.trail = led_within c.loop-reason.invariant (omega arith) in
     omega arith
 
-pub settle-resolve_along-requires : goal.settle-resolve_along-requires
-settle-resolve_along-requires t c =
-    let within : 4 * c.loop-reason.noted ≤ length c.loop-reason.trail = led_within c.loop-reason.invariant (omega arith) in
+pub settle-slice_bounds-resolve_along-end : goal.settle-slice_bounds-resolve_along-end
+settle-slice_bounds-resolve_along-end t c =
+    let within : c.loop-reason.noted ≤ length c.loop-reason.trail = led_within c.loop-reason.invariant (omega arith) in
     omega arith
+
+pub settle-slice_bounds-resolve_along-end-in-Failed-said : goal.settle-slice_bounds-resolve_along-end-in-Failed-said
+settle-slice_bounds-resolve_along-end-in-Failed-said t c = sym (length-take-le _ _ (settle-slice_bounds-resolve_along-end t c))
 
 -- the trail leads to where the turn came, whichever way it went
-leads : (t : ℕ) (c : settle-Joined-look t)
-    → Led width (fulfils (lent c.args.within c.args.whole c.args.levels c.args.i)) (setting c.args.s) c.match-look.trail c.loop-reason.noted
+leads : (t : ℕ) (c : settle-Joined-forced t)
+    → Led width (asked_of c.args.self.now) (setting c.args.s) c.match-forced.trail c.loop-reason.noted
     (setting c.loop-reason.r)
 leads t c =
     let L = c.loop-reason.invariant in
-    elim c.match-look.branch [
+    elim c.match-forced.branch [
       | settle-in-Failed w ↦ rw w.trail-is L
       | settle-in-Forced w ↦ rw w.trail-is L
       | settle-in-Rest+then-bits w ↦ rw w.trail-is L
@@ -90,14 +92,17 @@ leads t c =
 
 pub settle-returns-in-Failed-said : goal.settle-returns-in-Failed-said
 settle-returns-in-Failed-said t c =
-    rw c.resolve_along.ensures ((leads t (goal.at.settle-returns-in-Failed-said t c).Joined-look).reasons _ (search rules))
+    rw c.resolve_along.ensures ((leads t (goal.at.settle-returns-in-Failed-said t c).Joined-forced).reasons _ (search rules))
 
-pub settle-note-requires : goal.settle-note-requires
-settle-note-requires t c =
-    let P = fulfils (lent c.args.within c.args.whole c.args.levels c.args.i) in
+pub settle-offset_bounds-trail-noted-in-Forced-said : goal.settle-offset_bounds-trail-noted-in-Forced-said
+settle-offset_bounds-trail-noted-in-Forced-said t c = omega (arith, few, led_few c.loop-reason.invariant)
+
+pub settle-bounds-trail-noted : goal.settle-bounds-trail-noted
+settle-bounds-trail-noted t c =
+    let P = asked_of c.args.self.now in
     let q = c.in-Forced-said in
     let F : Forces width P (setting c.loop-reason.r) (word_of q.reason) (word_of q.bit) (word_of q.value) = search rules in
-    let next : 4 * c.loop-reason.noted + 4 ≤ length c.loop-reason.trail = led_next c.loop-reason.invariant _ _ F (omega arith) in
+    let next : c.loop-reason.noted < length c.loop-reason.trail = led_next c.loop-reason.invariant (record { reason = q.reason; bit = q.bit }) F (omega arith) in
     omega arith
 
 pub settle-overflow_add-noted : goal.settle-overflow_add-noted
@@ -105,7 +110,7 @@ settle-overflow_add-noted t c = omega (arith, few, led_few c.loop-reason.invaria
 
 pub settle-loop-reason-smaller : goal.settle-loop-reason-smaller
 settle-loop-reason-smaller t c =
-    let P = fulfils (lent c.args.within c.args.whole c.args.levels c.args.i) in
+    let P = asked_of c.args.self.now in
     let q = c.in-Forced-said in
     let F : Forces width P (setting c.loop-reason.r) (word_of q.reason) (word_of q.bit) (word_of q.value) = search rules in
     let ok = c.loop-reason.invariant.sound in
@@ -114,8 +119,9 @@ settle-loop-reason-smaller t c =
 
 pub settle-loop-reason-preserved : goal.settle-loop-reason-preserved
 settle-loop-reason-preserved t c =
-    let P = fulfils (lent c.args.within c.args.whole c.args.levels c.args.i) in
+    let P = asked_of c.args.self.now in
     let q = c.in-Forced-said in
     let F : Forces width P (setting c.loop-reason.r) (word_of q.reason) (word_of q.bit) (word_of q.value) = search rules in
-    let L = leads t (goal.at.settle-loop-reason-preserved t c).Joined-look in
-    rw (c.settle_at-r.ensures, c.note.ensures) (led_more L _ _ F (led_next L _ _ F (omega arith)))
+    let e : Entry = record { reason = q.reason; bit = q.bit } in
+    let L = leads t (goal.at.settle-loop-reason-preserved t c).Joined-forced in
+    rw c.settle_at-r.ensures (led_more L e F (led_next L e F (omega arith)))

@@ -7,11 +7,10 @@ use Rattle.look.specs.Look.{setting}
 use Rattle.question.specs.Reason.{open_of}
 use Rattle.question.proofs.Walk.{walked_more, walked_all}
 use Rattle.question.proofs.Rest.{follows_fails, follows_least, walked_follows}
-use Rattle.question.proofs.least.Goals as goal
+use Rattle.question.proofs.engine.Asked.least.Goals as goal
 
-pub returns-in_default-f : goal.returns-in_default-f
-returns-in_default-f c =
-    follows_fails (rw c.in-At.is at c.rest-r.ensures) (rw c.in_default-f.is at c.settle-f.ensures)
+pub returns-in_default-settle : goal.returns-in_default-settle
+returns-in_default-settle c = follows_fails c.in-Some.ensures c.in_default-settle.ensures
 
 pub loop-before-preserved : goal.loop-before-preserved
 loop-before-preserved c =
@@ -22,7 +21,7 @@ loop-before-preserved c =
 
 pub returns : goal.returns
 returns c =
-    follows_least (rw c.in-At.is at c.rest-r.ensures)
+    follows_least c.in-Some.ensures
     (walked_all c.loop-before.invariant.0 (word_fits _ c.ranges.front.fits)
     (omega (
       arith,

@@ -5,18 +5,18 @@ use Rattle.look.specs.Reason.{Setting}
 use Rattle.question.proofs.More.{more_falls}
 use Rattle.question.proofs.Rest.{follows_more, follows_fails}
 use Rattle.question.proofs.Solving.{forced}
-use Rattle.question.proofs.engine.rest.Goals as goal
+use Rattle.question.proofs.engine.Asked.rest.Goals as goal
 
 pub returns-in-Failed : goal.returns-in-Failed
 returns-in-Failed c =
-    follows_fails c.loop-bit.invariant (rw c.in-Failed.is at c.forced-look.ensures)
+    follows_fails c.loop-bit.invariant c.in-Failed.ensures
 
 pub loop-bit-smaller : goal.loop-bit-smaller
 loop-bit-smaller c =
     let ok = c.loop-bit.invariant.sound in
-    let f = more_falls (forced ok (rw c.in-Forced.is at c.forced-look.ensures)) ok in
+    let f = more_falls (forced ok c.in-Forced.ensures) ok in
     omega (arith, ap (λ (t : Setting). ones t.bits) c.settle_at-r.ensures, f.one, f.most)
 
 pub loop-bit-preserved : goal.loop-bit-preserved
 loop-bit-preserved c =
-    rw c.settle_at-r.ensures (follows_more c.loop-bit.invariant (rw c.in-Forced.is at c.forced-look.ensures))
+    rw c.settle_at-r.ensures (follows_more c.loop-bit.invariant c.in-Forced.ensures)
