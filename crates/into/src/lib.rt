@@ -46,18 +46,7 @@ fn next(free: Free, table: &[u64; TABLE], step: &[u64], state: u64, from: u64) -
     requires { free.n ≤ 32 }
     ensures { answered result ≡ least (2 ^ free.n) (λ s. not_below from s && some_true free.w step.now (pair s state)) }
 {
-    let levels = [0u32; 1];
-    question::step_in(
-        free,
-        table,
-        &step[..0],
-        step,
-        &step[..0],
-        &levels[..0],
-        1,
-        state,
-        from,
-    )
+    question::step_in(free, table, &[], step, &[], &[], 1, state, from)
 }
 
 // Writes state after state. With one more than the store holds, it is all zero again.
