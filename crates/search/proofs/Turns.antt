@@ -6,6 +6,7 @@ use mathlib.Core.Path.{◌≡◌, sym, ap, ◌∙◌}
 use native.Mathlib.Numerals.{add-one}
 use native.Mathlib.Omega.{arith}
 use lib.ListN.{length}
+use Rattle.std.specs.declared.ops.ControlFlow.TheVariants.{Continue, Break}
 use Rattle.ic3.specs.Search.{next, search_from}
 use Rattle.ic3.specs.Search as ic3
 use Rattle.ic3.proofs.From.{from_out, from_go, from_stop}
@@ -21,7 +22,6 @@ use Rattle.search.specs.declared.react.Verdict.TheVariants.{GaveUp}
 use Rattle.search.specs.declared.react.Phase.{Phase}
 use Rattle.search.specs.declared.react.Phase.TheVariants.{Raise}
 use Rattle.search.specs.declared.react.Config.{Config}
-use Rattle.search.specs.declared.react.Move.TheVariants.{Go, Stop}
 use Rattle.search.proofs.Rounds.{level_entry}
 use Rattle.search.proofs.Windows.{window_length}
 
@@ -75,7 +75,7 @@ module _ {y : System} {allowance : ℕ} {s₀ : Stores} {ending : ic3.Ending} {c
   room = length s₀.states
 
   -- the turn keeps the shape, in every system; and the rest of the run is one turn shorter
-  pub running_go : {d : Config} → asked < allowance → Moves (Go d) s' (next rounds (model y) room (config_of c s))
+  pub running_go : {d : Config} → asked < allowance → Moves (Continue d) s' (next rounds (model y) room (config_of c s))
       → Running y allowance s₀ ending d (asked + 1) s'
   running_go {d} h m =
       let left : allowance - asked ≡ suc (allowance - (asked + 1)) = omega arith in
@@ -96,7 +96,7 @@ module _ {y : System} {allowance : ℕ} {s₀ : Stores} {ending : ic3.Ending} {c
       }
 
   -- the ending of the turn is that of the run
-  pub running_stop : {v : Verdict} → asked < allowance → Moves (Stop v) s' (next rounds (model y) room (config_of c s))
+  pub running_stop : {v : Verdict} → asked < allowance → Moves (Break v) s' (next rounds (model y) room (config_of c s))
       → Ends y.n room ending v (asked + 1) s'
   running_stop h m =
       let left : allowance - asked ≡ suc (allowance - suc asked) = omega arith in

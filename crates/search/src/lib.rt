@@ -9,16 +9,15 @@ mod store;
 mod turn;
 
 ghost use Rattle.std.specs.Prelude.{◌≡◌, take};
-ghost use Rattle.system.specs.System.{system_of};
-ghost use Rattle.call.specs.Call.{why_number, leaves};
+ghost use Rattle.system.specs.Lent.{system_in};
+ghost use Rattle.call.specs.Call.{leaves};
 ghost use Rattle.call.specs.Promise.{stores, Promised};
-ghost use Rattle.search.specs.Lent.{why_of};
 ghost use Rattle.search.specs.Inner.{Finishes, Closing, Closes};
 
-use question::Free;
-use react::{Verdict, Why};
+use react::Verdict;
 use store::keep;
-use turn::{Ending, searched};
+use system::System;
+use turn::{Ending, Tabled};
 
 // The stores as they are left: the states start with `front` of their numbers and the path with `len` of its own, and everything else is zero.
 fn finish(states: &mut [u64], levels: &mut [u32], path: &mut [u64], front: usize, len: usize)
@@ -28,19 +27,8 @@ fn finish(states: &mut [u64], levels: &mut [u32], path: &mut [u64], front: usize
         (take front states.old) (take len path.old) }
 {
     stores::clear_behind(states, front);
-    stores::clear_levels(levels);
+    stores::clear(levels);
     stores::clear_behind(path, len);
-}
-
-// The number of a search that gave up.
-fn number(why: Why) -> u32
-    ensures { result ≡ why_number (why_of why) }
-{
-    match why {
-        Why::Spent => 5,
-        Why::NoRoom => 6,
-        Why::NoStart => 14,
-    }
 }
 
 // The stores are left with the evidence alone.
@@ -64,7 +52,7 @@ fn close(states: &mut [u64], levels: &mut [u32], path: &mut [u64], ending: Endin
             outcome = call::Outcome::Unsafe(k, questions);
         }
         Verdict::GaveUp(why) => {
-            outcome = call::Outcome::GaveUp(number(why), questions);
+            outcome = call::Outcome::GaveUp(why.into(), questions);
         }
     }
     finish(states, levels, path, front, len);
@@ -73,41 +61,29 @@ fn close(states: &mut [u64], levels: &mut [u32], path: &mut [u64], ending: Endin
 
 // The call of the scope.
 pub fn search(
-    n: u32,
-    w: u32,
-    start: &[u64],
-    step: &[u64],
-    bad: &[u64],
+    system: System,
     states: &mut [u64],
     levels: &mut [u32],
     path: &mut [u64],
     allowance: u32,
 ) -> call::Outcome
-    ensures { Promised (system_of n w start.now step.now bad.now)
+    ensures { Promised (system_in system.entry)
         (stores states.old levels.old path.old) allowance
         result (stores states.new levels.new path.new) }
 {
-    let refusal = system::refusal(n, w, start, step, bad);
-    if refusal != 0 {
-        return call::Outcome::Refused(refusal);
+    if let Err(refusal) = system.refusal() {
+        return call::Outcome::Refused(refusal.into());
     }
     if call::wrong_stores(states, levels, path) {
         return call::Outcome::Refused(4);
     }
-    let step_table = order::table(step, w);
-    let bad_table = order::table(bad, w);
-    let f = Free { n, w };
-    let ending = searched(
-        f,
-        &step_table,
-        &bad_table,
-        start,
-        step,
-        bad,
-        states,
-        levels,
-        path,
-        allowance,
-    );
+    let step_table = order::table(system.step, system.w);
+    let bad_table = order::table(system.bad, system.w);
+    let tabled = Tabled {
+        system,
+        step_table: &step_table,
+        bad_table: &bad_table,
+    };
+    let ending = tabled.searched(states, levels, path, allowance);
     close(states, levels, path, ending)
 }

@@ -4,12 +4,13 @@
 ghost use Rattle.std.specs.Prelude.{List, ℕ, suc, ◌-◌, ◌<◌, ◌≡◌, length, get_or};
 ghost use Rattle.ic3.specs.Search as ic3;
 ghost use Rattle.ic3.specs.Shape.{Tidy};
-ghost use Rattle.call.specs.Call.{Stores, rounds};
+ghost use Rattle.call.specs.Call.{Stores, rounds, why_number};
 ghost use Rattle.call.specs.Promise.{stores};
-ghost use Rattle.search.specs.Lent.{store_of, duties};
+ghost use Rattle.search.specs.Lent.{store_of, duties, why_of};
 ghost use Rattle.search.specs.Inner.{Opens, Blocks, Judges, Enters, Tests, Moves, tested_from};
 
-use super::store::{Kept, gap, last_at, next_at, store};
+use super::store::{gap, next_at, sits_before, store};
+use std::ops::ControlFlow::{self, Break, Continue};
 
 // What the awaited question is asked for: step 2 (or 1); step 3 for the duty of level k + 1; step 4 at level i for entry j.
 // The open duties stand in the path store: index k holds the state of the open duty of level k, from the lowest that is open up to N. So a state
@@ -37,6 +38,19 @@ pub(super) enum Why {
     NoStart,
 }
 
+// Its number.
+impl From<Why> for u32 {
+    ghost from_gives = { λ why n. n ≡ why_number (why_of why) };
+
+    fn from(why: Why) -> u32 {
+        match why {
+            Why::Spent => 5,
+            Why::NoRoom => 6,
+            Why::NoStart => 14,
+        }
+    }
+}
+
 // How a search ends: safe, with the level from which on states are excluded and the number stored; unsafe, with the path's length; or given up.
 #[derive(Clone, Copy)]
 pub(super) enum Verdict {
@@ -45,12 +59,8 @@ pub(super) enum Verdict {
     GaveUp(Why),
 }
 
-// What an answer leads to.
-#[derive(Clone, Copy)]
-pub(super) enum Move {
-    Go(Config),
-    Stop(Verdict),
-}
+// What an answer leads to: where the search goes on, or how it ends.
+pub(super) type Move = ControlFlow<Verdict, Config>;
 
 // A number as wide as an index.
 pub(super) fn wide(k: u32) -> usize
@@ -66,9 +76,9 @@ pub(super) fn found(path: &mut [u64], N: u32, count: usize, s: u64) -> Move
 {
     path[wide(N)] = s;
     if N == 0 {
-        return Move::Stop(Verdict::Unsafe(1));
+        return Break(Verdict::Unsafe(1));
     }
-    Move::Go(Config {
+    Continue(Config {
         N,
         count,
         phase: Phase::Settle(N - 1),
@@ -83,9 +93,9 @@ pub(super) fn deeper(path: &mut [u64], N: u32, count: usize, k: u32, t: u64) -> 
 {
     path[wide(k)] = t;
     if k == 0 {
-        return Move::Stop(Verdict::Unsafe(wide(N) + 1));
+        return Break(Verdict::Unsafe(wide(N) + 1));
     }
-    Move::Go(Config {
+    Continue(Config {
         N,
         count,
         phase: Phase::Settle(k - 1),
@@ -98,13 +108,13 @@ fn settled(N: u32, count: usize, k: u32) -> Move
     ensures { (s : Stores) → Moves result s (ic3.go (ic3.settled N (store_of count s.states s.levels) k (duties N k s.path))) }
 {
     if k + 1 < N {
-        return Move::Go(Config {
+        return Continue(Config {
             N,
             count,
             phase: Phase::Settle(k + 1),
         });
     }
-    Move::Go(Config {
+    Continue(Config {
         N,
         count,
         phase: Phase::Look,
@@ -124,10 +134,9 @@ pub(super) fn blocked(
     ensures { (path : List ℕ) → Moves result (stores states.new levels.new path)
         (ic3.kept (length states.old) N (ic3.put (store_of count states.old levels.old) s (suc k)) k (duties N k path)) }
 {
-    let r = store(states, levels, count, s, k + 1);
-    match r {
-        Kept::At(c) => settled(N, c, k),
-        Kept::Full => Move::Stop(Verdict::GaveUp(Why::NoRoom)),
+    match store(states, levels, count, s, k + 1) {
+        Some(c) => settled(N, c, k),
+        None => Break(Verdict::GaveUp(Why::NoRoom)),
     }
 }
 
@@ -138,9 +147,9 @@ fn judge(levels: &[u32], N: u32, count: usize) -> Move
 {
     let i = gap(levels, count, N);
     if i < N {
-        return Move::Stop(Verdict::Safe(i, count));
+        return Break(Verdict::Safe(i, count));
     }
-    Move::Go(Config {
+    Continue(Config {
         N,
         count,
         phase: Phase::Look,
@@ -156,9 +165,8 @@ pub(super) fn round(levels: &[u32], N: u32, count: usize, i: u32) -> Move
     if i == N {
         return judge(levels, N, count);
     }
-    let first = next_at(levels, count, 0, i);
-    if first < count {
-        return Move::Go(Config {
+    if let Some(first) = next_at(levels, count, 0, i) {
+        return Continue(Config {
             N,
             count,
             phase: Phase::Raise(i, first),
@@ -173,15 +181,14 @@ pub(super) fn tested(levels: &[u32], N: u32, count: usize, i: u32, j: usize) -> 
     ensures { (ss path : List ℕ) → Tidy (store_of count ss levels.now)
         → Moves result (stores ss levels.now path) (tested_from N count i j ss levels.now) }
 {
-    let next = next_at(levels, count, j, i);
-    if next < count {
-        return Move::Go(Config {
+    if let Some(next) = next_at(levels, count, j, i) {
+        return Continue(Config {
             N,
             count,
             phase: Phase::Raise(i, next),
         });
     }
-    if 0 < last_at(levels, j, i) {
+    if sits_before(levels, j, i) {
         return round(levels, N, count, i + 1);
     }
     judge(levels, N, count)

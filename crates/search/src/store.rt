@@ -2,78 +2,55 @@
 // Entries are stored anew behind the others or raised in place, and none is taken out. Nothing is refused: a full store is `Full`, and a walk that
 // finds nothing ends at the count. Every function requires that the entries lie within the lent stores, which holds for a search that was not
 // refused.
-ghost use Rattle.std.specs.Prelude.{◌≤◌, length};
-ghost use Rattle.search.specs.Inner.{Holds, Walks, Judges, FirstAt, LastAt, KeptAs, LeastGap, FrontOf};
+ghost use Rattle.std.specs.Prelude.{◌≡◌, ◌≤◌, ◌↔◌, IsTrue, position, length, take};
+ghost use Rattle.std.specs.List.{Any};
+ghost use Rattle.search.specs.Inner.{Holds, Walks, Judges, First, KeptAs, LeastGap, FrontOf};
 
-// The number stored after a state got its level, or that there was no room.
-#[derive(Clone, Copy)]
-pub(super) enum Kept {
-    At(usize),
-    Full,
-}
-
-// The first of the stored states that is s, or their number.
-fn index_of(states: &[u64], count: usize, s: u64) -> usize
-    requires { count ≤ length states.now }
-    ensures { FirstAt states.now 0 count s result }
+// The first index at which x stands.
+fn place_of<T: PartialEq>(xs: &[T], x: &T) -> Option<usize>
+    ensures { result ≡ position (λ y. T.eq y x.now) xs.now }
 {
-    let mut j = 0;
-    while j < count {
-        if states[j] == s {
-            return j;
-        }
-        j += 1;
-    }
-    j
+    xs.iter().position(|y| y == x)
 }
 
-// s gets level k: its level is raised in place, or it is stored anew behind all others, if there is room.
-pub(super) fn store(states: &mut [u64], levels: &mut [u32], count: usize, s: u64, k: u32) -> Kept
+// s gets level k: its level is raised in place, or it is stored anew behind all others. The number stored then, if there was room.
+pub(super) fn store(
+    states: &mut [u64],
+    levels: &mut [u32],
+    count: usize,
+    s: u64,
+    k: u32,
+) -> Option<usize>
     requires { Holds count states.old levels.old }
     ensures { KeptAs states.old levels.old count s k states.new levels.new result }
 {
-    let j = index_of(states, count, s);
-    if j < count {
+    if let Some(j) = place_of(&states[..count], &s) {
         levels[j] = k;
-        return Kept::At(count);
+        return Some(count);
     }
     if count < states.len() {
         states[count] = s;
         levels[count] = k;
-        return Kept::At(count + 1);
+        return Some(count + 1);
     }
-    Kept::Full
+    None
 }
 
-// The first entry from j on that sits at level i exactly, or the number of entries.
-pub(super) fn next_at(levels: &[u32], count: usize, j: usize, i: u32) -> usize
+// The first entry from j on that sits at level i exactly.
+pub(super) fn next_at(levels: &[u32], count: usize, j: usize, i: u32) -> Option<usize>
     requires { Walks levels.now count j }
-    ensures { FirstAt levels.now j count i result }
+    ensures { First levels.now j count i result }
 {
-    let mut k = j;
-    while k < count {
-        if levels[k] == i {
-            return k;
-        }
-        k += 1;
-    }
-    k
+    let further = place_of(&levels[j..count], &i)?;
+    Some(j + further)
 }
 
-// One more than the index of the last entry before j that sits at level i exactly, or 0. Of those that a round has tested the last is the likeliest to
-// sit there still.
-pub(super) fn last_at(levels: &[u32], j: usize, i: u32) -> usize
+// Whether an entry before j sits at level i exactly. Of those that a round has tested the last is the likeliest to sit there still.
+pub(super) fn sits_before(levels: &[u32], j: usize, i: u32) -> bool
     requires { j ≤ length levels.now }
-    ensures { LastAt levels.now j i result }
+    ensures { IsTrue result ↔ Any (λ l. l ≡ i) (take j levels.now) }
 {
-    let mut k = j;
-    while 0 < k {
-        if levels[k - 1] == i {
-            return k;
-        }
-        k -= 1;
-    }
-    k
+    levels[..j].iter().rev().any(|level| *level == i)
 }
 
 // The smallest level from 1 up to below N at which no stored state sits exactly, or N.
@@ -82,6 +59,7 @@ pub(super) fn gap(levels: &[u32], count: usize, N: u32) -> u32
     ensures { LeastGap levels.now count N result }
 {
     let mut i: u32 = 1;
+    // Stays: the scope names this form ("Forms for each place"): a loop over levels, with a walk inside left by label, yields the level by break.
     let level = 'levels: loop {
         if i == N {
             break N;
@@ -107,13 +85,11 @@ pub(super) fn keep(states: &mut [u64], levels: &[u32], count: usize, i: u32) -> 
     ensures { FrontOf states.old levels.now count i states.new result }
 {
     let mut kept = 0;
-    let mut j = 0;
-    while j < count {
+    for j in 0..count {
         if i <= levels[j] {
             states[kept] = states[j];
             kept += 1;
         }
-        j += 1;
     }
     kept
 }

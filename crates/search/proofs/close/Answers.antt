@@ -22,6 +22,6 @@ returns c =
           let e = w.in-Unsafe.is in
           rw (w.states-is, w.front-is, w.len-is, w.outcome-is) (closes_unsafe _ _ _ _ e (rw e at c.requires.counted))
       | in-GaveUp w ↦
-          rw (w.states-is, w.front-is, w.len-is, w.outcome-is) (closes_given_up _ _ _ _ _ w.in-GaveUp.is w.number.ensures)
+          rw (w.states-is, w.front-is, w.len-is, w.outcome-is) (closes_given_up _ _ _ _ _ w.in-GaveUp.is w.into.ensures)
     ]
     in closable.closes _ c.finish.ensures

@@ -10,5 +10,5 @@ unfolding leaves
 returns c =
     stores_same
     (c.clear_behind.ensures ∙ over_take _ _ c.requires.states)
-    (c.clear_levels.ensures ∙ over_none _)
+    (c.clear.ensures ∙ over_none _)
     (c.clear_behind-2.ensures ∙ over_take _ _ c.requires.path)

@@ -5,14 +5,12 @@ use Rattle.call.specs.Promise.{stores}
 use Rattle.search.proofs.Keeping.{kept_fits, kept_not}
 use Rattle.search.proofs.react.blocked.Goals as goal
 
-pub returns-in-At : goal.returns-in-At
-returns-in-At c =
-    let o = c.store-r in
-    let w = rw add-one at (rw c.in-At.is at o.ensures) in
+pub returns-in-Some : goal.returns-in-Some
+returns-in-Some c =
+    let w = rw add-one at c.in-Some.ensures in
     λ path. kept_fits _ _ _ _ _ _ _ _ w.fit w.store (c.settled.ensures (stores _ _ path))
 
-pub returns-in-Full : goal.returns-in-Full
-returns-in-Full c =
-    let o = c.store-r in
-    let w = rw add-one at (rw c.in-Full.is at o.ensures) in
+pub returns-in-None : goal.returns-in-None
+returns-in-None c =
+    let w = rw add-one at c.in-None.ensures in
     λ path. kept_not _ _ _ _ _ _ w

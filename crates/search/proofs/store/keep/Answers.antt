@@ -18,4 +18,4 @@ loop-j-preserved c =
 pub returns : goal.returns
 returns c =
     let l = c.loop-j in
-    record { front = fronted_all _ _ _ _ _ _ _ l.invariant c.loop-j-test.false; few = omega (arith, l.invariant) }
+    record { front = fronted_all _ _ _ _ _ _ _ l.invariant (omega arith); few = omega (arith, l.invariant) }

@@ -1,11 +1,7 @@
 -- `search::store::keep` meets its contract. The loop's invariant is `Fronted`: the states kept so far with those still to be kept are all that are
--- to be kept, and from j on nothing is changed. The measure is the number of entries left. Assumes nothing.
-use Prim.Native.Nat.{◌-◌}
+-- to be kept, and from j on nothing is changed. Assumes nothing.
 use Rattle.search.proofs.Fronts.{Fronted}
 use Rattle.search.proofs.store.keep.Given as goal
 
 abbrev pub invariant-loop-j : goal.invariant-loop-j
 invariant-loop-j l = Fronted l.count l.i l.initial.states l.levels l.states l.kept l.j
-
-abbrev pub decreases-loop-j : goal.decreases-loop-j
-decreases-loop-j l = l.count - l.j

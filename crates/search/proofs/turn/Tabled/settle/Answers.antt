@@ -1,13 +1,13 @@
--- `search::turn::settle` meets its contract: the state of the duty is read at the index of its level, and the answer is taken in by `deeper`, or,
+-- `Tabled::settle` meets its contract: the state of the duty is read at the index of its level, and the answer is taken in by `deeper`, or,
 -- with none, by `blocked`. Assumes nothing.
 use native.Mathlib.Numerals.{add-one}
 use native.Mathlib.Omega.{arith}
 use Rattle.search.proofs.Taken.{moves_to, settle_some, settle_none}
 use Rattle.search.proofs.Turns.{ready_asks}
-use Rattle.search.proofs.turn.settle.Goals as goal
+use Rattle.search.proofs.turn.Tabled.settle.Goals as goal
 
-pub step_state-answer-requires : goal.step_state-answer-requires
-step_state-answer-requires c = (ready_asks c.requires).holds
+pub step_state-requires : goal.step_state-requires
+step_state-requires c = (ready_asks c.requires).holds
 
 pub blocked-requires : goal.blocked-requires
 blocked-requires c =
@@ -18,14 +18,14 @@ pub returns-in-Some : goal.returns-in-Some
 returns-in-Some c =
     let a = c.args in
     let w = c.wide.ensures in
-    let e = rw (w, add-one a.k) at (rw c.in-Some.is at c.step_state-answer.ensures) in
-    λ bad. moves_to (settle_some _ _ _ _ (ready_asks c.requires) _ _ _ _ _ _ e) (c.deeper.ensures _ _)
+    let e = rw (w, add-one a.k) at (rw c.in-Some.is at c.step_state.ensures) in
+    moves_to (settle_some _ _ _ _ (ready_asks c.requires) _ _ _ _ _ _ e) (c.deeper.ensures _ _)
 
 pub returns-in-None : goal.returns-in-None
 returns-in-None c =
     let a = c.args in
     let w = c.wide.ensures in
     let told = c.in-None.is in
-    let e = rw (w, add-one a.k) at (rw told at c.step_state-answer.ensures) in
+    let e = rw (w, add-one a.k) at (rw told at c.step_state.ensures) in
     let f = rw (w, add-one a.k) at (c.blocked.ensures a.path.now) in
-    λ bad. moves_to (settle_none _ _ _ _ (ready_asks c.requires) _ _ _ _ _ e) f
+    moves_to (settle_none _ _ _ _ (ready_asks c.requires) _ _ _ _ _ e) f

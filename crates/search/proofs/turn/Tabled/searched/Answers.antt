@@ -1,17 +1,16 @@
--- `search::turn::searched` meets its contract: the question for a start state is asked with leave alone, and what the answer leads to is the definition's.
+-- `Tabled::searched` meets its contract: the question for a start state is asked with leave alone, and what the answer leads to is the definition's.
 -- Assumes nothing.
 use Prim.Native.Nat.{◌≤◌}
 use native.Mathlib.Omega.{arith}
-use Rattle.system.specs.System.{system_of}
+use Rattle.system.specs.Lent.{system_in}
 use Rattle.search.proofs.Opening.{forbidden_ends, nowhere_ends, first_begins, first_searches}
-use Rattle.search.proofs.turn.searched.Goals as goal
+use Rattle.search.proofs.turn.Tabled.searched.Goals as goal
 
 pub returns-then-allowance-eq0 : goal.returns-then-allowance-eq0
 returns-then-allowance-eq0 c = forbidden_ends _ c.requires c.if-allowance-eq0.true
 
 pub returns-in_default : goal.returns-in_default
-returns-in_default c =
-    nowhere_ends _ c.requires (omega arith) (rw c.in_default.is at c.start_state-answer.ensures)
+returns-in_default c = nowhere_ends _ c.requires (omega arith) (rw c.in_default.is at c.start_state.ensures)
 
 pub all_turns-requires : goal.all_turns-requires
 all_turns-requires c =
@@ -20,6 +19,6 @@ all_turns-requires c =
 pub returns : goal.returns
 returns c =
     let a = c.args in
-    let y = system_of a.f.n a.f.w a.start.now a.step.now a.bad.now in
+    let y = system_in a.self.now.system in
     let leave : 1 ≤ a.allowance = omega arith in
-    rw (first_searches y c.requires leave _ (rw c.in-Some.is at c.start_state-answer.ensures)) at c.all_turns.ensures
+    rw (first_searches y c.requires leave _ (rw c.in-Some.is at c.start_state.ensures)) at c.all_turns.ensures
