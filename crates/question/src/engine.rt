@@ -8,19 +8,16 @@ ghost use Rattle.question.specs.Reason.{open_of, TopOpen};
 ghost use Rattle.question.specs.Engine.{asked_of, Valid, Unfull, OneOf, Begins, HasOpen, Full, Solved, Says, Rests};
 
 use crate::trail::{Entry, resolve_along};
-use look::{ALL, Look, STATE, Settled, forced, is_outside, scan_all};
+use look::{ALL, Look, Region, STATE, Settled, forced, is_outside, scan_all};
 use masks::Mask;
 use order::{TABLE, woken};
 
-// What is asked of a word: the list `whole`, and that its state is one of R(i), for which `within` is the start list or holds the stored states, with their
-// levels. The table is that of `whole`.
+// What is asked of a word: the list `whole`, with its table, and that the word's state is one of the region.
 #[derive(Clone, Copy)]
 pub(crate) struct Asked<'a> {
     pub table: &'a [u64; TABLE],
-    pub within: &'a [u64],
+    pub region: Region<'a>,
     pub whole: &'a [u64],
-    pub levels: &'a [u32],
-    pub i: u32,
 }
 
 // What a look, a test or a try says of settled bits: some word that agrees with them fulfils the condition; or none does, for these of them; or an open
@@ -99,7 +96,7 @@ impl Asked<'_> {
         ensures { Says (asked_of self.now) s result }
     {
         let Settled { bits, values } = s;
-        if is_outside(self.within, self.levels, self.i, values.pair) {
+        if is_outside(&self.region, values.pair) {
             return Said::Failed(Mask {
                 pair: STATE,
                 wires: 0,
@@ -124,15 +121,7 @@ impl Asked<'_> {
         let mut r = s;
         let mut waits = waiting;
         loop {
-            match forced(
-                self.within,
-                self.whole,
-                self.levels,
-                self.i,
-                r,
-                waits,
-                looked,
-            ) {
+            match forced(&self.region, self.whole, r, waits, looked) {
                 Look::Rest => {
                     return Some(r);
                 }
@@ -170,7 +159,7 @@ impl Asked<'_> {
         let mut seen = looked;
         let mut noted = 0;
         loop {
-            let said = match forced(self.within, self.whole, self.levels, self.i, r, waits, seen) {
+            let said = match forced(&self.region, self.whole, r, waits, seen) {
                 Look::Failed(reason) => Said::Failed(reason),
                 Look::Forced {
                     reason,

@@ -22,7 +22,7 @@ ghost use Rattle.question.specs.Asked.{asked_in, asked, Block};
 ghost use Rattle.question.specs.Engine.{condition_of, asked_of, Valid, Few, Starts, Comes, GoesOn, Walks, LeastFront};
 
 use engine::{Asked, NONE, settle_at, top_open};
-use look::{ALL, HALF, STATE, Settled};
+use look::{ALL, HALF, Region, STATE, Settled};
 use masks::Mask;
 use order::{TABLE, woken};
 use trail::Entry;
@@ -64,18 +64,11 @@ fn size(n: u32) -> u64
     if n < 32 { 1u64 << n } else { HALF }
 }
 
-// All positions but the n lowest, of which a state has 32 at most: what is settled while these are open.
+// All positions of 64 but the n lowest: what is settled while these are open.
 fn beyond(n: u32) -> u64
-    ensures { result ≡ 2 ^ 64 - 2 ^ min n 32 }
+    ensures { result ≡ 2 ^ 64 - 2 ^ min n 64 }
 {
-    !(size(n) - 1)
-}
-
-// The same of wires, of which there are 64 at most.
-fn beyond_wires(w: u32) -> u64
-    ensures { result ≡ 2 ^ 64 - 2 ^ min w 64 }
-{
-    if w < 64 { !((1u64 << w) - 1) } else { 0 }
+    if n < 64 { !((1u64 << n) - 1) } else { 0 }
 }
 
 // How many bits are open in the largest block that begins at `at`: as many as it ends in zeros, and no more than a state has.
@@ -166,7 +159,7 @@ impl Asked<'_> {
         let s = Settled {
             bits: Mask {
                 pair: beyond(k),
-                wires: beyond_wires(free.w),
+                wires: beyond(free.w),
             },
             values: Mask {
                 pair: at + HALF * (later % HALF),
@@ -216,10 +209,8 @@ pub fn step_in(
     let within = if i == 0 { start } else { states };
     let asked = Asked {
         table,
-        within,
+        region: Region { within, levels, i },
         whole: step,
-        levels,
-        i,
     };
     asked.ask(free, target, from)
 }
@@ -247,10 +238,12 @@ pub fn some_true(free: Free, table: &[u64; TABLE], list: &[u64], s: u64, t: u64)
 {
     let asked = Asked {
         table,
-        within: &[],
+        region: Region {
+            within: &list[..0],
+            levels: &[],
+            i: 1,
+        },
         whole: list,
-        levels: &[],
-        i: 1,
     };
     let mut trail = TRAIL;
     let answer = asked.ask_block(free, t, s % HALF, 0, &mut trail);

@@ -30,7 +30,7 @@ returns-then-list_true c =
     full_passes width (fulfils asked) (setting a.s) c.requires.valid
     (fulfils_inside asked (word_of a.s.values)
     (ap (outside asked) (low_half a.s.values) ∙ sym (c.is_outside.ensures a.self.now.whole.now) ∙ c.if-is_outside.false)
-    ∙ ap (λ l. word_true l (word_of a.s.values)) (region_whole a.self.now.within.now a.self.now.whole.now a.self.now.levels.now a.self.now.i)
+    ∙ ap (λ l. word_true l (word_of a.s.values)) (region_whole a.self.now.region.within.now a.self.now.whole.now a.self.now.region.levels.now a.self.now.region.i)
     ∙ word_true_lem a.self.now.whole.now a.s.values ∙ sym c.list_true.ensures ∙ c.if-list_true.true)
 
 pub returns-in_default : goal.returns-in_default
@@ -40,11 +40,11 @@ returns-in_default c =
     full_nothing width (fulfils asked) (setting a.s) c.requires.valid (fulfils_same asked) c.requires.all
     (fulfils_inside asked (word_of a.s.values)
     (ap (outside asked) (low_half a.s.values) ∙ sym (c.is_outside.ensures a.self.now.whole.now) ∙ c.if-is_outside.false)
-    ∙ ap (λ l. word_true l (word_of a.s.values)) (region_whole a.self.now.within.now a.self.now.whole.now a.self.now.levels.now a.self.now.i)
+    ∙ ap (λ l. word_true l (word_of a.s.values)) (region_whole a.self.now.region.within.now a.self.now.whole.now a.self.now.region.levels.now a.self.now.region.i)
     ∙ word_true_lem a.self.now.whole.now a.s.values ∙ sym c.list_true.ensures ∙ c.if-list_true.false)
 
 pub returns : goal.returns
 returns c =
     let a = c.args in
     by_whole (condition_of a.self.now) a.s (Failed _)
-    (rw (region_whole a.self.now.within.now a.self.now.whole.now a.self.now.levels.now a.self.now.i) (rw c.in-Failed.is at c.scan_all-look.ensures))
+    (rw (region_whole a.self.now.region.within.now a.self.now.whole.now a.self.now.region.levels.now a.self.now.region.i) (rw c.in-Failed.is at c.scan_all-look.ensures))
