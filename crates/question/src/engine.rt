@@ -35,6 +35,8 @@ enum Said {
 }
 
 // One bit more is settled, at 0 or at the bit itself.
+// Stays: that a setting is valid is a clause, and no ghost field: a look takes any `Settled`, and a type of this crate's own would be no plainer, since it
+// would ask of each bit here that it is open.
 pub(crate) fn settle_at(s: Settled, bit: Mask, value: Mask) -> Settled
     ensures { setting result ≡ more (setting s) (word_of bit) (word_of value) }
 {
@@ -157,6 +159,7 @@ impl Asked<'_> {
         let mut r = s;
         let mut waits = waiting;
         let mut seen = looked;
+        // Stays: a count beside the trail, of which the part behind it is lent to a try; there is no heap.
         let mut noted = 0;
         loop {
             let said = match forced(&self.region, self.whole, r, waits, seen) {

@@ -117,10 +117,8 @@ impl Asked<'_> {
         let bit = masks::without(s.bits, before.bits);
         let value = masks::without(s.values, before.values);
         let waiting = woken(self.table, bit, value);
-        match self.rest(s, waiting, before.bits.pair) {
-            Some(settled) => Descent { settled, word },
-            None => d,
-        }
+        let settled = self.rest(s, waiting, before.bits.pair).unwrap_or(s);
+        Descent { settled, word }
     }
 
     // A word whose front is least, or the settled bits that a failure rests on: what is forced before any bit is tried stays settled; then, with a word in
@@ -166,10 +164,9 @@ impl Asked<'_> {
                 wires: 0,
             },
         };
-        match self.least(STATE, s, trail) {
-            Ok(word) => Some(word.pair % HALF),
-            Err(_) => None,
-        }
+        self.least(STATE, s, trail)
+            .ok()
+            .map(|word| word.pair % HALF)
     }
 
     // The least state not below `from` whose pair, with `later` one step later, fulfils the condition by some setting of the wires. From 0 on all states are
@@ -193,6 +190,7 @@ impl Asked<'_> {
 
 // The least state of R(i) that steps to the target and is not below `from`. R(0) is what `start` is true of; above, it is all but the states that are
 // stored with a level of i or more. A state with no level beside it counts as stored with every level.
+// Stays: the lists apart, here and in `bad_in`: a struct of them is no plainer, since a caller would build one for each call of lists that it holds apart.
 pub fn step_in(
     free: Free,
     table: &[u64; TABLE],
@@ -236,6 +234,7 @@ pub fn bad_in(
 pub fn some_true(free: Free, table: &[u64; TABLE], list: &[u64], s: u64, t: u64) -> bool
     ensures { result ≡ some_true free.w list.now (pair (s % 2 ^ 32) (t % 2 ^ 32)) }
 {
+    // R(1) with nothing stored is every state.
     let asked = Asked {
         table,
         region: Region {
