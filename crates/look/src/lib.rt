@@ -32,8 +32,8 @@ pub enum Look {
     },
 }
 
-// R(i): for R(0) `within` is the start list, and above it are the stored states, of which those with a level of i or more are excluded. A state with no level
-// beside it counts as stored with every level.
+// R(i): for R(0) `within` is the start list, and above it holds the stored states, of which those with a level of i or more are excluded. A state with no
+// level beside it counts as stored with every level.
 #[derive(Clone, Copy)]
 pub struct Region<'a> {
     pub within: &'a [u64],

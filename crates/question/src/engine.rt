@@ -143,8 +143,8 @@ impl Asked<'_> {
         }
     }
 
-    // Settles forced bits, and notes each on the trail; with none forced it tries an open bit, and with none open it tests the word. It answers some word, or
-    // the settled bits that a failure rests on: these were settled before, so its reason is resolved along the trail.
+    // Settles forced bits, and notes each on the trail; with none forced it tries an open bit, and with none open it tests the word. Some word, or the settled
+    // bits that a failure rests on: these were settled before, so its reason is resolved along the trail.
     #[cycle(attempt_settle)]
     pub(crate) fn settle(
         &self,

@@ -1,4 +1,4 @@
--- `look::Region::scan` meets its contract: what a look at the start list says, or one at the excluded states, it says of the condition. Assumes nothing.
+-- `Region::scan` meets its contract: what a look at the start list says, or one at the excluded states, it says of the condition. Assumes nothing.
 use Rattle.look.proofs.Parts.{region_start, region_stored, by_low, by_states}
 use Rattle.look.proofs.Region.scan.Goals as goal
 

@@ -1,4 +1,4 @@
--- `look::Region::scan_state` meets its contract: what fails at an excluded state fails for the state's bits. Assumes nothing.
+-- `Region::scan_state` meets its contract: what fails at an excluded state fails for the state's bits. Assumes nothing.
 use mathlib.Core.Path.{refl, sym, ap, ◌∙◌}
 use Prim.Native.Nat.{◌-◌, ◌^◌}
 use native.Mathlib.Omega.{arith}

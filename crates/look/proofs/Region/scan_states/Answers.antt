@@ -1,4 +1,4 @@
--- `look::Region::scan_states` meets its contract. Whatever `clause` says of an entry's clause, the store says; where it says nothing the loop goes on. Assumes
+-- `Region::scan_states` meets its contract. Whatever `clause` says of an entry's clause, the store says; where it says nothing the loop goes on. Assumes
 -- nothing.
 use mathlib.Core.Path.{sym, ◌∙◌}
 use native.Mathlib.Omega.{arith}

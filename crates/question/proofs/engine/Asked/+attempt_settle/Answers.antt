@@ -1,5 +1,5 @@
 use Prim.Native.Nat.{ℕ, ◌≤◌}
-use mathlib.Core.Path.{sym, ap, ◌∙◌}
+use mathlib.Core.Path.{◌≡◌, sym, ap, ◌∙◌}
 use native.Mathlib.Omega.{arith}
 use borrow.Author.Rules.{rules}
 use borrow.Author.Tests.{eqb-true}
@@ -15,7 +15,7 @@ use Rattle.question.proofs.Solving.{more_passes, forced, at_zero, zero_enough, r
 use Rattle.question.specs.declared.trail.Entry.{Entry}
 use Rattle.question.proofs.Along.{Led, led_none, led_few, led_within, led_lent, led_next, led_more}
 use Rattle.question.proofs.engine.Asked.+attempt_settle.Goals as goal
-use Rattle.question.proofs.engine.Asked.+attempt_settle.Goals.{settle-in-Failed, settle-in-Forced, settle-in-Rest+then-bits, settle-in-Rest+else-bits, settle-Joined-forced, settle-In-Forced-said}
+use Rattle.question.proofs.engine.Asked.+attempt_settle.Goals.{settle-in-Failed, settle-in-Forced, settle-in-Rest+then-bits, settle-in-Rest+else-bits, settle-Joined-forced, settle-In-Forced-said, attempt-After-settle_at}
 
 -- no more entries than 128
 few : width ≤ 128
@@ -23,12 +23,16 @@ unfolding width
 few = omega arith
 
 -- ---- `attempt`
+-- the bit is settled at 0
+zeroed : (t : ℕ) (c : attempt-After-settle_at t) → setting c.settle_at.result ≡ more (setting c.args.s) (word_of c.pick-bit.result) 0
+zeroed t c = c.settle_at.ensures ∙ ap (more (setting c.args.s) (word_of c.pick-bit.result)) zero_word
+
 pub attempt-settle-f-requires : goal.attempt-settle-f-requires
 attempt-settle-f-requires t c =
     let b = c.requires.begins in
     let zero = at_zero b.valid c.pick-bit.ensures in
     let f = more_falls zero b.valid in
-    let e = c.settle_at.ensures ∙ ap (more (setting c.args.s) (word_of c.pick-bit.result)) zero_word in
+    let e = zeroed t (goal.at.attempt-settle-f-requires t c).After-settle_at in
     let n = ap (λ (t : Setting). ones t.bits) e in (
       omega (arith, n, f.one, f.most, c.decreases),
       record { valid = rw e (more_sound zero b.valid); long = omega (arith, n, f.one, b.long) },
@@ -36,18 +40,18 @@ attempt-settle-f-requires t c =
 
 pub attempt-returns-then-is_empty : goal.attempt-returns-then-is_empty
 attempt-returns-then-is_empty t c =
-    let e = c.settle_at.ensures ∙ ap (more (setting c.args.s) (word_of c.pick-bit.result)) zero_word in
+    let e = zeroed t (goal.at.attempt-returns-then-is_empty t c).After-settle_at in
     zero_enough c.requires.begins.valid c.pick-bit.ensures (asked_of c.args.self.now) _ (rw e at c.in-Err.ensures)
     (sym c.and.ensures ∙ eqb-true _ _ (sym c.is_empty.ensures ∙ c.if-is_empty.true))
 
 pub attempt-returns-in-Ok : goal.attempt-returns-in-Ok
 attempt-returns-in-Ok t c =
-    let e = c.settle_at.ensures ∙ ap (more (setting c.args.s) (word_of c.pick-bit.result)) zero_word in
+    let e = zeroed t (goal.at.attempt-returns-in-Ok t c).After-settle_at in
     more_passes (at_zero c.requires.begins.valid c.pick-bit.ensures) (asked_of c.args.self.now) _ (rw e at c.in-Ok.ensures)
 
 pub attempt-returns-else-is_empty : goal.attempt-returns-else-is_empty
 attempt-returns-else-is_empty t c =
-    let e = c.settle_at.ensures ∙ ap (more (setting c.args.s) (word_of c.pick-bit.result)) zero_word in
+    let e = zeroed t (goal.at.attempt-returns-else-is_empty t c).After-settle_at in
     refuted c.requires.begins.valid c.pick-bit.ensures (rw e at c.in-Err.ensures)
 
 -- ---- `settle`
@@ -83,10 +87,6 @@ leads t c =
       | settle-in-Rest+then-bits w ↦ rw w.trail-is L
       | settle-in-Rest+else-bits w ↦ rw w.trail-is (led_lent L _ (led_within L (omega arith)))
     ]
-
-pub settle-returns-in-Failed-said : goal.settle-returns-in-Failed-said
-settle-returns-in-Failed-said t c =
-    rw c.resolve_along.ensures ((leads t (goal.at.settle-returns-in-Failed-said t c).Joined-forced).reasons _ (search rules))
 
 -- the bit that is forced then, whichever way the turn came to it
 forces : (t : ℕ) (c : settle-In-Forced-said t)

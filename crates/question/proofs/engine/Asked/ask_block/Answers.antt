@@ -1,4 +1,4 @@
--- `question::engine::Asked::ask_block` meets its contract: the state of a word whose front is least is the least state of the block. Assumes nothing.
+-- `Asked::ask_block` meets its contract: the state of a word whose front is least is the least state of the block. Assumes nothing.
 use Prim.Native.Nat.{◌%◌, ◌^◌}
 use mathlib.Core.Path.{◌≡◌}
 use native.Mathlib.Nat.{mod-lt}
