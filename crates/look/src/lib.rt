@@ -32,6 +32,15 @@ pub enum Look {
     },
 }
 
+// R(i): for R(0) `within` is the start list, and above it holds the stored states, of which those with a level of i or more are excluded. A state with no
+// level beside it counts as stored with every level.
+#[derive(Clone, Copy)]
+pub struct Region<'a> {
+    pub within: &'a [u64],
+    pub levels: &'a [u32],
+    pub i: u32,
+}
+
 // The low half of a pair is what remains by 2^32.
 pub const HALF: u64 = 1 << 32;
 
@@ -168,92 +177,87 @@ fn scan_low(list: &[u64], s: Settled) -> Look
     }
 }
 
-// Whether entry j is stored with a level of i or more; with no level beside it, it is.
-fn at_level(levels: &[u32], j: usize, i: u32) -> bool
-    ensures { result ≡ leb i (get_or levels.now j i) }
-{
-    levels.get(j).is_none_or(|level| i <= *level)
+impl Region<'_> {
+    // Whether entry j is stored with a level of i or more.
+    fn at_level(&self, j: usize) -> bool
+        ensures { result ≡ leb self.now.i (get_or self.now.levels.now j self.now.i) }
+    {
+        let i = self.i;
+        self.levels.get(j).is_none_or(|level| i <= *level)
+    }
+
+    // With the whole state settled: a failure at an excluded state rests on the state's bits alone. With no bit open at all the word is tested next, the
+    // excluded states first.
+    fn scan_state(&self, s: Settled) -> Look
+        requires { StateSettled s }
+        ensures { Scanned (allowed self.now.within.now self.now.levels.now self.now.i) s result }
+    {
+        if is_excluded(self, s.values.pair % HALF) {
+            return Look::Failed(Mask {
+                pair: STATE,
+                wires: 0,
+            });
+        }
+        Look::Rest
+    }
+
+    // The excluded states. Each is a clause that some bit of the state differs; it uses all of them, so it says nothing while two are open.
+    fn scan_states(&self, s: Settled) -> Look
+        ensures { Scanned (allowed self.now.within.now self.now.levels.now self.now.i) s result }
+    {
+        let open = !s.bits.pair % HALF;
+        if open == 0 {
+            return self.scan_state(s);
+        }
+        if open & (open - 1) != 0 {
+            return Look::Rest;
+        }
+        for (j, state) in self.within.iter().enumerate() {
+            if *state < HALF && self.at_level(j) {
+                let c = Clause {
+                    ones: Mask {
+                        pair: STATE - *state,
+                        wires: 0,
+                    },
+                    zeros: Mask {
+                        pair: *state,
+                        wires: 0,
+                    },
+                };
+                let look = clause(c, s, 0);
+                let Look::Rest = look else {
+                    return look;
+                };
+            }
+        }
+        Look::Rest
+    }
+
+    // What R(i) says: the start list for R(0), else the excluded states.
+    fn scan(&self, s: Settled) -> Look
+        ensures { (whole : List ℕ) → Scanned (fulfils (region self.now.within.now whole self.now.levels.now self.now.i)) s result }
+    {
+        if self.i == 0 {
+            return scan_low(self.within, s);
+        }
+        self.scan_states(s)
+    }
 }
 
 // Whether the state s is stored with a level of i or more.
-pub fn is_excluded(states: &[u64], levels: &[u32], i: u32, s: u64) -> bool
-    ensures { result ≡ excluded i states.now levels.now s }
+pub fn is_excluded(r: &Region, s: u64) -> bool
+    ensures { result ≡ excluded r.now.i r.now.within.now r.now.levels.now s }
 {
-    states
+    r.within
         .iter()
         .enumerate()
-        .any(|(j, state)| *state == s && at_level(levels, j, i))
-}
-
-// With the whole state settled: a failure at an excluded state rests on the state's bits alone. With no bit open at all the word is tested next, the
-// excluded states first.
-fn scan_state(states: &[u64], levels: &[u32], i: u32, s: Settled) -> Look
-    requires { StateSettled s }
-    ensures { Scanned (allowed states.now levels.now i) s result }
-{
-    if is_excluded(states, levels, i, s.values.pair % HALF) {
-        return Look::Failed(Mask {
-            pair: STATE,
-            wires: 0,
-        });
-    }
-    Look::Rest
-}
-
-// The excluded states. Each is a clause that some bit of the state differs; it uses all of them, so it says nothing while two are open.
-fn scan_states(states: &[u64], levels: &[u32], i: u32, s: Settled) -> Look
-    ensures { Scanned (allowed states.now levels.now i) s result }
-{
-    let open = !s.bits.pair % HALF;
-    if open == 0 {
-        return scan_state(states, levels, i, s);
-    }
-    if open & (open - 1) != 0 {
-        return Look::Rest;
-    }
-    for (j, state) in states.iter().enumerate() {
-        if *state < HALF && at_level(levels, j, i) {
-            let c = Clause {
-                ones: Mask {
-                    pair: STATE - *state,
-                    wires: 0,
-                },
-                zeros: Mask {
-                    pair: *state,
-                    wires: 0,
-                },
-            };
-            let look = clause(c, s, 0);
-            let Look::Rest = look else {
-                return look;
-            };
-        }
-    }
-    Look::Rest
-}
-
-// What R(i) says: the start list for R(0), else the excluded states.
-fn scan_region(within: &[u64], levels: &[u32], i: u32, s: Settled) -> Look
-    ensures { (whole : List ℕ) → Scanned (fulfils (region within.now whole levels.now i)) s result }
-{
-    if i == 0 {
-        return scan_low(within, s);
-    }
-    scan_states(within, levels, i, s)
+        .any(|(j, state)| *state == s && r.at_level(j))
 }
 
 // What is forced next: the blocks that wait come to rest before R(i) is looked at, and it is not where the state's bits are those at which it was looked at
 // last, nor where no bit is open and the word is tested next.
-pub fn forced(
-    within: &[u64],
-    whole: &[u64],
-    levels: &[u32],
-    i: u32,
-    s: Settled,
-    waiting: u64,
-    looked: u64,
-) -> Look
-    ensures { Scanned (fulfils (lent within.entry whole.entry levels.entry i)) s result }
+pub fn forced(r: &Region, whole: &[u64], s: Settled, waiting: u64, looked: u64) -> Look
+    ensures { Scanned (fulfils (lent r.now whole.entry)) s result }
 {
     let look = scan(whole, waiting, s);
     let Look::Rest = look else {
@@ -263,22 +267,22 @@ pub fn forced(
     if bits.pair == looked || bits.pair & bits.wires == ALL {
         return Look::Rest;
     }
-    scan_region(within, levels, i, s)
+    r.scan(s)
 }
 
 // Whether the state is none of R(i).
-pub fn is_outside(within: &[u64], levels: &[u32], i: u32, s: u64) -> bool
-    ensures { (whole : List ℕ) → result ≡ outside (region within.now whole levels.now i) (s % 2 ^ 32) }
+pub fn is_outside(r: &Region, s: u64) -> bool
+    ensures { (whole : List ℕ) → result ≡ outside (region r.now.within.now whole r.now.levels.now r.now.i) (s % 2 ^ 32) }
 {
     let state = s % HALF;
-    if i == 0 {
+    if r.i == 0 {
         return !system::list_true(
-            within,
+            r.within,
             Mask {
                 pair: state,
                 wires: 0,
             },
         );
     }
-    is_excluded(within, levels, i, state)
+    is_excluded(r, state)
 }

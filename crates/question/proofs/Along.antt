@@ -40,7 +40,8 @@ pub back_along : (entries : List Entry) (m : ℕ) → back (reverse entries) m �
 unfolding resolved_along
 back_along [] m = refl
 back_along (e ∷ entries) m =
-    rw (reverse-append (e ∷ []) entries) (back_more (reverse entries) e m ∙ ap (λ r. resolved width r (word_of e.reason) (word_of e.bit)) (back_along entries m))
+    rw (reverse-append (e ∷ []) entries)
+    (back_more (reverse entries) e m ∙ ap (λ r. resolved width r (word_of e.reason) (word_of e.bit)) (back_along entries m))
 
 -- The first k entries of the trail lead from s to r.
 pub record Led (width : ℕ) (P : ℕ → Bool) (s : Setting) (trail : List Entry) (k : ℕ) (r : Setting) : Type 0 where

@@ -75,6 +75,10 @@ wider {n} b =
 pub block_length : {n at k : ℕ} → Block n at k → 2 ^ min k 32 ≡ 2 ^ k
 block_length {n} {at} {k} b = let e : min k 32 ≡ k = omega (arith, b.low) in ap (λ x. 2 ^ x) e
 
+-- a block is one of 64 positions
+pub block_inside : {n at k : ℕ} → Block n at k → 2 ^ min k 64 ≡ 2 ^ k
+block_inside {n} {at} {k} b = let e : min k 64 ≡ k = omega (arith, b.low) in ap (λ x. 2 ^ x) e
+
 -- ---- words that agree, word by word
 module _ (m v : Mask) (w : ℕ) where
   agree_words : Agree m.pair (w % 2 ^ 64) v.pair → Agree m.wires (w / 2 ^ 64) v.wires → Agree (word_of m) w (word_of v)

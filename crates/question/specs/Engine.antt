@@ -18,7 +18,7 @@ use Rattle.question.specs.declared.trail.Entry.{Entry}
 
 -- the condition that is asked, and what it says of a word
 abbrev pub condition_of : Asked → Condition
-condition_of a = lent a.within a.whole a.levels a.i
+condition_of a = lent a.region a.whole
 
 abbrev pub asked_of : Asked → ℕ → Bool
 asked_of a = fulfils (condition_of a)

@@ -8,19 +8,16 @@ ghost use Rattle.question.specs.Reason.{open_of, TopOpen};
 ghost use Rattle.question.specs.Engine.{asked_of, Valid, Unfull, OneOf, Begins, HasOpen, Full, Solved, Says, Rests};
 
 use crate::trail::{Entry, resolve_along};
-use look::{ALL, Look, STATE, Settled, forced, is_outside, scan_all};
+use look::{ALL, Look, Region, STATE, Settled, forced, is_outside, scan_all};
 use masks::Mask;
 use order::{TABLE, woken};
 
-// What is asked of a word: the list `whole`, and that its state is one of R(i), for which `within` is the start list or holds the stored states, with their
-// levels. The table is that of `whole`.
+// What is asked of a word: the list `whole`, with its table, and that the word's state is one of the region.
 #[derive(Clone, Copy)]
 pub(crate) struct Asked<'a> {
     pub table: &'a [u64; TABLE],
-    pub within: &'a [u64],
+    pub region: Region<'a>,
     pub whole: &'a [u64],
-    pub levels: &'a [u32],
-    pub i: u32,
 }
 
 // What a look, a test or a try says of settled bits: some word that agrees with them fulfils the condition; or none does, for these of them; or an open
@@ -38,6 +35,8 @@ enum Said {
 }
 
 // One bit more is settled, at 0 or at the bit itself.
+// Stays: that a setting is valid is a clause, and no ghost field: a look takes any `Settled`, and a type of this crate's own would be no plainer, since it
+// would ask of each bit here that it is open.
 pub(crate) fn settle_at(s: Settled, bit: Mask, value: Mask) -> Settled
     ensures { setting result ≡ more (setting s) (word_of bit) (word_of value) }
 {
@@ -99,7 +98,7 @@ impl Asked<'_> {
         ensures { Says (asked_of self.now) s result }
     {
         let Settled { bits, values } = s;
-        if is_outside(self.within, self.levels, self.i, values.pair) {
+        if is_outside(&self.region, values.pair) {
             return Said::Failed(Mask {
                 pair: STATE,
                 wires: 0,
@@ -124,15 +123,7 @@ impl Asked<'_> {
         let mut r = s;
         let mut waits = waiting;
         loop {
-            match forced(
-                self.within,
-                self.whole,
-                self.levels,
-                self.i,
-                r,
-                waits,
-                looked,
-            ) {
+            match forced(&self.region, self.whole, r, waits, looked) {
                 Look::Rest => {
                     return Some(r);
                 }
@@ -152,8 +143,8 @@ impl Asked<'_> {
         }
     }
 
-    // Settles forced bits, and notes each on the trail; with none forced it tries an open bit, and with none open it tests the word. It answers some word, or
-    // the settled bits that a failure rests on: these were settled before, so its reason is resolved along the trail.
+    // Settles forced bits, and notes each on the trail; with none forced it tries an open bit, and with none open it tests the word. Some word, or the settled
+    // bits that a failure rests on: these were settled before, so its reason is resolved along the trail.
     #[cycle(attempt_settle)]
     pub(crate) fn settle(
         &self,
@@ -168,9 +159,10 @@ impl Asked<'_> {
         let mut r = s;
         let mut waits = waiting;
         let mut seen = looked;
+        // Stays: a count beside the trail, of which the part behind it is lent to a try; there is no heap.
         let mut noted = 0;
         loop {
-            let said = match forced(self.within, self.whole, self.levels, self.i, r, waits, seen) {
+            let said = match forced(&self.region, self.whole, r, waits, seen) {
                 Look::Failed(reason) => Said::Failed(reason),
                 Look::Forced {
                     reason,

@@ -22,7 +22,7 @@ ghost use Rattle.question.specs.Asked.{asked_in, asked, Block};
 ghost use Rattle.question.specs.Engine.{condition_of, asked_of, Valid, Few, Starts, Comes, GoesOn, Walks, LeastFront};
 
 use engine::{Asked, NONE, settle_at, top_open};
-use look::{ALL, HALF, STATE, Settled};
+use look::{ALL, HALF, Region, STATE, Settled};
 use masks::Mask;
 use order::{TABLE, woken};
 use trail::Entry;
@@ -64,18 +64,11 @@ fn size(n: u32) -> u64
     if n < 32 { 1u64 << n } else { HALF }
 }
 
-// All positions but the n lowest, of which a state has 32 at most: what is settled while these are open.
+// All positions of 64 but the n lowest: what is settled while these are open.
 fn beyond(n: u32) -> u64
-    ensures { result ≡ 2 ^ 64 - 2 ^ min n 32 }
+    ensures { result ≡ 2 ^ 64 - 2 ^ min n 64 }
 {
-    !(size(n) - 1)
-}
-
-// The same of wires, of which there are 64 at most.
-fn beyond_wires(w: u32) -> u64
-    ensures { result ≡ 2 ^ 64 - 2 ^ min w 64 }
-{
-    if w < 64 { !((1u64 << w) - 1) } else { 0 }
+    if n < 64 { !((1u64 << n) - 1) } else { 0 }
 }
 
 // How many bits are open in the largest block that begins at `at`: as many as it ends in zeros, and no more than a state has.
@@ -124,10 +117,8 @@ impl Asked<'_> {
         let bit = masks::without(s.bits, before.bits);
         let value = masks::without(s.values, before.values);
         let waiting = woken(self.table, bit, value);
-        match self.rest(s, waiting, before.bits.pair) {
-            Some(settled) => Descent { settled, word },
-            None => d,
-        }
+        let settled = self.rest(s, waiting, before.bits.pair).unwrap_or(s);
+        Descent { settled, word }
     }
 
     // A word whose front is least, or the settled bits that a failure rests on: what is forced before any bit is tried stays settled; then, with a word in
@@ -166,17 +157,16 @@ impl Asked<'_> {
         let s = Settled {
             bits: Mask {
                 pair: beyond(k),
-                wires: beyond_wires(free.w),
+                wires: beyond(free.w),
             },
             values: Mask {
                 pair: at + HALF * (later % HALF),
                 wires: 0,
             },
         };
-        match self.least(STATE, s, trail) {
-            Ok(word) => Some(word.pair % HALF),
-            Err(_) => None,
-        }
+        self.least(STATE, s, trail)
+            .ok()
+            .map(|word| word.pair % HALF)
     }
 
     // The least state not below `from` whose pair, with `later` one step later, fulfils the condition by some setting of the wires. From 0 on all states are
@@ -200,6 +190,7 @@ impl Asked<'_> {
 
 // The least state of R(i) that steps to the target and is not below `from`. R(0) is what `start` is true of; above, it is all but the states that are
 // stored with a level of i or more. A state with no level beside it counts as stored with every level.
+// Stays: the lists apart, here and in `bad_in`: a struct of them is no plainer, since a caller would build one for each call of lists that it holds apart.
 pub fn step_in(
     free: Free,
     table: &[u64; TABLE],
@@ -216,10 +207,8 @@ pub fn step_in(
     let within = if i == 0 { start } else { states };
     let asked = Asked {
         table,
-        within,
+        region: Region { within, levels, i },
         whole: step,
-        levels,
-        i,
     };
     asked.ask(free, target, from)
 }
@@ -245,12 +234,15 @@ pub fn bad_in(
 pub fn some_true(free: Free, table: &[u64; TABLE], list: &[u64], s: u64, t: u64) -> bool
     ensures { result ≡ some_true free.w list.now (pair (s % 2 ^ 32) (t % 2 ^ 32)) }
 {
+    // R(1) with nothing stored is every state.
     let asked = Asked {
         table,
-        within: &[],
+        region: Region {
+            within: &list[..0],
+            levels: &[],
+            i: 1,
+        },
         whole: list,
-        levels: &[],
-        i: 1,
     };
     let mut trail = TRAIL;
     let answer = asked.ask_block(free, t, s % HALF, 0, &mut trail);

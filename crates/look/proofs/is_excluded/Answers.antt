@@ -11,6 +11,6 @@ use Rattle.look.proofs.is_excluded.Goals as goal
 pub returns : goal.returns
 returns c =
     let a = c.args in
-    any_from_yields_List (λ (p : ℕ × ℕ). nat_eq p.1 a.s && leb a.i (get_or a.levels.now p.0 a.i)) _ _ _ c.any.ensures.ran
-    (YieldsList-from_enumerate (YieldsList-from_slice a.states.now (cc)) (cc)) (λ x b q k. search (rules, tests))
-    ∙ any_from a.i a.states.now a.levels.now a.s
+    any_from_yields_List (λ (p : ℕ × ℕ). nat_eq p.1 a.s && leb a.r.now.i (get_or a.r.now.levels.now p.0 a.r.now.i)) _ _ _ c.any.ensures.ran
+    (YieldsList-from_enumerate (YieldsList-from_slice a.r.now.within.now (cc)) (cc)) (λ x b q k. search (rules, tests))
+    ∙ any_from a.r.now.i a.r.now.within.now a.r.now.levels.now a.s

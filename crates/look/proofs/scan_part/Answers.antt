@@ -1,3 +1,4 @@
+use native.Mathlib.Omega.{arith}
 use Rattle.look.proofs.Lists.{walks_on, list_scanned}
 use Rattle.look.proofs.scan_part.Goals as goal
 
@@ -6,4 +7,4 @@ loop-left-preserved c = walks_on _ _ c.loop-left.invariant _
 
 pub returns-in_default-look : goal.returns-in_default-look
 returns-in_default-look c =
-    list_scanned _ _ c.loop-left.invariant c.in-len4-up.len_at_least c.args.s c.clause-look.result c.clause-look.ensures
+    list_scanned _ _ c.loop-left.invariant (omega arith) c.args.s c.clause-look.result c.clause-look.ensures

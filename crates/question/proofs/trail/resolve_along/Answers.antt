@@ -18,5 +18,6 @@ loop-entry-preserved c =
 
 pub returns : goal.returns
 returns c =
-    let end = YieldsList-end (YieldsList-from_rev_slice c.args.entries.now (cc)) c.loop-entry.yielded _ c.loop-entry.yielded_by _ _ c.in-None.is c.next.ensures.steps in
+    let l = c.loop-entry in
+    let end = YieldsList-end (YieldsList-from_rev_slice c.args.entries.now (cc)) l.yielded _ l.yielded_by _ _ c.in-None.is c.next.ensures.steps in
     c.loop-entry.invariant ∙ (rw end.0 (back_along c.args.entries.now _))

@@ -1,4 +1,4 @@
--- `question::engine::Asked::settle` and `question::engine::Asked::attempt` meet their contracts. The measure is the number of open bits, doubled, and one more for
+-- `Asked::settle` and `Asked::attempt` meet their contracts. The measure is the number of open bits, doubled, and one more for
 -- `settle`: `attempt` settles a bit and calls `settle`, which calls `attempt` with no fewer bits settled than it was given. The loop's invariant is
 -- that the trail leads from the bits that were given to those that are settled, and its measure is the number of open bits. A turn goes one of four
 -- ways, and what it comes to is then treated as one: a forced bit is an entry more, and what fails is resolved along the trail. Assumes nothing.

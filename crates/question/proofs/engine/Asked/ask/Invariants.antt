@@ -1,4 +1,4 @@
--- `question::engine::Asked::ask` meets its contract. The loop's invariant: no state from `from` on and below `at` fulfils the condition. The measure is what is left
+-- `Asked::ask` meets its contract. The loop's invariant: no state from `from` on and below `at` fulfils the condition. The measure is what is left
 -- below the end. Assumes nothing.
 use Prim.Native.Nat.{◌-◌, ◌≤◌}
 use Rattle.question.specs.Engine.{condition_of}

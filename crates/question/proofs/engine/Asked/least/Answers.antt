@@ -5,19 +5,12 @@ use Rattle.masks.specs.Word.{width}
 use Rattle.masks.proofs.Words.{word_fits}
 use Rattle.look.specs.Look.{setting}
 use Rattle.question.specs.Reason.{open_of}
-use Rattle.question.proofs.Walk.{walked_more, walked_all}
-use Rattle.question.proofs.Rest.{follows_fails, follows_least, walked_follows}
+use Rattle.question.proofs.Walk.{walked_all}
+use Rattle.question.proofs.Rest.{follows_fails, follows_least}
 use Rattle.question.proofs.engine.Asked.least.Goals as goal
 
 pub returns-in_default-settle : goal.returns-in_default-settle
 returns-in_default-settle c = follows_fails c.in-Some.ensures c.in_default-settle.ensures
-
-pub loop-before-preserved : goal.loop-before-preserved
-loop-before-preserved c =
-    let inv = c.loop-before.invariant in (
-      rw c.at_rest-d.ensures.0 (walked_follows (walked_more inv.0 c.descend-walked.ensures) c.at_rest-d.ensures.1),
-      omega (arith, inv.1, c.descend-walked.ensures.falls.one, c.at_rest-d.ensures.1.beyond),
-    )
 
 pub returns : goal.returns
 returns c =

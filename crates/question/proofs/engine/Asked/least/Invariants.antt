@@ -1,4 +1,4 @@
--- `question::engine::Asked::least` meets its contract. What is forced at first follows, so it is enough to look for the least front behind it. The loop's invariant is
+-- `Asked::least` meets its contract. What is forced at first follows, so it is enough to look for the least front behind it. The loop's invariant is
 -- `Walked`: no word that passes and agreed there is lost, but for those above all that agree now. The measure is the number of open bits. Assumes nothing.
 use Prim.Native.Nat.{◌-◌}
 use lib.Count.{ones}

@@ -1,4 +1,4 @@
--- `question::engine::Asked::rest` meets its contract. The loop's invariant is that what is settled follows from what was given; its measure is the number of open
+-- `Asked::rest` meets its contract. The loop's invariant is that what is settled follows from what was given; its measure is the number of open
 -- bits. Assumes nothing.
 use Prim.Native.Nat.{◌-◌}
 use lib.Count.{ones}

@@ -1,4 +1,4 @@
--- `question::engine::Asked::test` meets its contract: with no bit open the values are a word, and it passes or nothing does; outside R(i) it fails for the state's
+-- `Asked::test` meets its contract: with no bit open the values are a word, and it passes or nothing does; outside R(i) it fails for the state's
 -- bits alone. Assumes nothing.
 use Prim.Native.Nat.{◌-◌, ◌^◌}
 use mathlib.Core.Path.{refl, sym, ap, ◌∙◌}
@@ -8,7 +8,7 @@ use Rattle.masks.proofs.Words.{half_width, no_wire, low_half}
 use Rattle.look.specs.Condition.{word_true, outside, fulfils}
 use Rattle.look.specs.Look.{setting}
 use Rattle.look.specs.declared.Look.TheVariants.{Failed}
-use Rattle.look.proofs.Parts.{region_whole, by_whole}
+use Rattle.look.proofs.Parts.{lent_whole, by_whole}
 use Rattle.question.specs.Engine.{condition_of}
 use Rattle.question.proofs.Pairs.{fulfils_same}
 use Rattle.question.proofs.Fulfilled.{word_true_lem, fulfils_inside, outside_fails}
@@ -30,7 +30,7 @@ returns-then-list_true c =
     full_passes width (fulfils asked) (setting a.s) c.requires.valid
     (fulfils_inside asked (word_of a.s.values)
     (ap (outside asked) (low_half a.s.values) ∙ sym (c.is_outside.ensures a.self.now.whole.now) ∙ c.if-is_outside.false)
-    ∙ ap (λ l. word_true l (word_of a.s.values)) (region_whole a.self.now.within.now a.self.now.whole.now a.self.now.levels.now a.self.now.i)
+    ∙ ap (λ l. word_true l (word_of a.s.values)) (lent_whole a.self.now.region a.self.now.whole)
     ∙ word_true_lem a.self.now.whole.now a.s.values ∙ sym c.list_true.ensures ∙ c.if-list_true.true)
 
 pub returns-in_default : goal.returns-in_default
@@ -40,11 +40,11 @@ returns-in_default c =
     full_nothing width (fulfils asked) (setting a.s) c.requires.valid (fulfils_same asked) c.requires.all
     (fulfils_inside asked (word_of a.s.values)
     (ap (outside asked) (low_half a.s.values) ∙ sym (c.is_outside.ensures a.self.now.whole.now) ∙ c.if-is_outside.false)
-    ∙ ap (λ l. word_true l (word_of a.s.values)) (region_whole a.self.now.within.now a.self.now.whole.now a.self.now.levels.now a.self.now.i)
+    ∙ ap (λ l. word_true l (word_of a.s.values)) (lent_whole a.self.now.region a.self.now.whole)
     ∙ word_true_lem a.self.now.whole.now a.s.values ∙ sym c.list_true.ensures ∙ c.if-list_true.false)
 
 pub returns : goal.returns
 returns c =
     let a = c.args in
     by_whole (condition_of a.self.now) a.s (Failed _)
-    (rw (region_whole a.self.now.within.now a.self.now.whole.now a.self.now.levels.now a.self.now.i) (rw c.in-Failed.is at c.scan_all-look.ensures))
+    (rw (lent_whole a.self.now.region a.self.now.whole) (rw c.in-Failed.is at c.scan_all-look.ensures))
