@@ -2,6 +2,9 @@
 // crates that it is compared with. Each function takes every argument.
 #![tactic(auto)]
 
+ghost use Rattle.std.specs.Prelude.{◌≡◌, []};
+ghost use Rattle.tables.specs.declared.List.TheVariants.{Start, Step, Bad};
+
 // A clause: bits of the pair wanted 1, bits wanted 0, wires wanted 1, wires wanted 0.
 #[derive(Clone, Copy, Debug)]
 pub struct Clause {
@@ -19,6 +22,14 @@ pub struct System<'a> {
     pub start: &'a [u64],
     pub step: &'a [u64],
     pub bad: &'a [u64],
+}
+
+// One of the three lists.
+#[derive(Clone, Copy, Debug, PartialEq, Eq)]
+pub enum List {
+    Start,
+    Step,
+    Bad,
 }
 
 // A system written out. The entries are rows of 2^n: row t says which states step to t by some setting of the wires, row 2^n which are start states, all
@@ -83,6 +94,30 @@ pub fn low(n: u32, bits: u64) -> u64 {
 }
 
 impl<'a> System<'a> {
+    // A system with one list alone: the others are empty.
+    pub fn of_one(n: u32, w: u32, which: List, list: &'a [u64]) -> System<'a>
+        ensures sizes { (result.n ≡ n) × (result.w ≡ w) }
+        ensures start { which ≡ Start → (result.start.now ≡ list.now) × (result.step.now ≡ []) × (result.bad.now ≡ []) }
+        ensures step { which ≡ Step → (result.start.now ≡ []) × (result.step.now ≡ list.now) × (result.bad.now ≡ []) }
+        ensures bad { which ≡ Bad → (result.start.now ≡ []) × (result.step.now ≡ []) × (result.bad.now ≡ list.now) }
+    {
+        let none = System {
+            n,
+            w,
+            start: &[],
+            step: &[],
+            bad: &[],
+        };
+        match which {
+            List::Start => System {
+                start: list,
+                ..none
+            },
+            List::Step => System { step: list, ..none },
+            List::Bad => System { bad: list, ..none },
+        }
+    }
+
     // Entry j of the table.
     fn entry(self, j: usize) -> bool {
         let row = j as u64 >> (self.n % 16);
