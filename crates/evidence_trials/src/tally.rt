@@ -7,8 +7,8 @@ use evidence::Checked;
 // How often each answer was given on each line: for each way, of excluded states, then of paths, then of either given to the other check.
 const PLACES: usize = 96;
 
-// Behind them the lists of evidence, the questions of all yes, a digest of all answers in turn, the answers that the walk would not give, and the counts of
-// questions that are not right.
+// The lists of evidence, the questions of all yes, a digest of all answers in turn, the answers that the walk would not give, and the counts of questions
+// that are not right.
 const TOTALS: usize = 6;
 
 const SAFE: usize = 0;
