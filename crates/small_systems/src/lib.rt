@@ -4,6 +4,7 @@
 
 ghost use Rattle.std.specs.Prelude.{◌≡◌, ◌%◌};
 ghost use Rattle.small_systems.specs.Kind.{number_of};
+ghost use Rattle.small_systems.specs.Random.{next_of};
 
 use tables::{Clause, Table};
 
@@ -140,7 +141,10 @@ fn any_of(literals: &[Literal]) -> Clause {
 }
 
 // The next random number (xorshift).
-pub fn next(seed: u64) -> u64 {
+#[tactic(auto, unfolding(crate::specs::Random::next_of))]
+pub fn next(seed: u64) -> u64
+    ensures { result ≡ next_of seed }
+{
     let a = seed ^ (seed << 13);
     let b = a ^ (a >> 7);
     b ^ (b << 17)
