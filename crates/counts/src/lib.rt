@@ -1,7 +1,8 @@
 // What a trial counts: N numbers, each at its place, and the lines that say them. A place that is none of the N holds 0 and takes nothing.
 #![tactic(auto)]
 
-ghost use Rattle.std.specs.Prelude.{◌≡◌, ℕ, ◌+◌, ◌%◌, ◌^◌, ◌<◌, ◌≢◌, IsTrue, List, false, replicate, slice_index};
+ghost use Rattle.std.specs.Prelude.{◌≡◌, ℕ, ◌+◌, ◌%◌, ◌^◌, ◌<◌, ◌≢◌, IsTrue, List, bit_xor, false, replicate, slice_index};
+ghost use Rattle.small_systems.specs.Random.{next_of};
 
 use std::marker::Model;
 
@@ -54,6 +55,7 @@ impl<const N: usize> Counts<N> {
 
     // The digest at the place, with one number more.
     pub fn stir(&mut self, place: usize, number: u64)
+        ensures there { place < N → slice_index self.new place ≡ next_of (bit_xor (slice_index self.old place) number) }
         ensures others { (k : ℕ) → k ≢ place → slice_index self.new k ≡ slice_index self.old k }
     {
         if place < N {

@@ -1,130 +1,136 @@
 // What is counted, and the lines that say so.
-use super::checks;
+use super::checks::{ANSWERS, Answer, Check};
+use super::damage::{WAYS, Way};
+use counts::Counts;
+use evidence::Checked;
 
-// What is counted, by its place: four answers for each way, first of excluded states, then of paths, then of either given to the other check. Behind them
-// the lists of evidence, the questions of all yes, a digest of all answers in turn, the answers that the walk would not give, and the counts of
-// questions that are not right.
-const PLACES: usize = 102;
+// How often each answer was given on each line: for each way, of excluded states, then of paths, then of either given to the other check.
+const PLACES: usize = 96;
 
-pub const SAFE: usize = 96;
+// The lists of evidence, the questions of all yes, a digest of all answers in turn, the answers that the walk would not give, and the counts of questions
+// that are not right.
+const TOTALS: usize = 6;
 
-pub const UNSAFE: usize = 97;
+const SAFE: usize = 0;
 
-const QUESTIONS: usize = 98;
+const UNSAFE: usize = 1;
 
-const DIGEST: usize = 99;
+const QUESTIONS: usize = 2;
 
-const DIFFER: usize = 100;
+const DIGEST: usize = 3;
 
-const QUESTIONS_WRONG: usize = 101;
+const DIFFER: usize = 4;
 
-pub fn add(counts: [u64; 102], at: usize, more: u64) -> [u64; 102] {
-    let mut c = counts;
-    let j = at % PLACES;
-    c[j] = std::num::wrapping_add_u64(c[j], more);
-    c
+const QUESTIONS_WRONG: usize = 5;
+
+#[derive(Debug, Drop)]
+pub struct Tally {
+    answers: Counts<PLACES>,
+    totals: Counts<TOTALS>,
 }
 
-// One more, if it is so.
-fn count(counts: [u64; 102], at: usize, so: bool) -> [u64; 102] {
-    if so { add(counts, at, 1) } else { counts }
+// What was damaged: evidence for the check of excluded states, for that of paths, or, of either kind, for the other check.
+#[derive(Clone, Copy, Debug)]
+enum Given {
+    Excluded,
+    Path,
+    Other,
 }
 
-// The digest of all answers, with one answer more.
-fn stirred(counts: [u64; 102], answer: u64) -> [u64; 102] {
-    let mut c = counts;
-    c[DIGEST] = small_systems::next(c[DIGEST] ^ answer);
-    c
-}
-
-// An answer counted on its line. The counts come and go by value, which takes a shorter proof than lending them to each function.
-pub fn enter(
-    counts: [u64; 102],
-    line: u64,
-    path: bool,
-    said: checks::Said,
-    wanted: u64,
-    k: usize,
-) -> [u64; 102] {
-    let a = said.answer;
-    let right = checks::questions_right(path, a, k, said.asked);
-    let c = add(counts, (line % 24 * 4 + a % 4) as usize, 1);
-    let c = count(c, DIFFER, a != wanted);
-    let c = count(c, QUESTIONS_WRONG, !right);
-    let c = stirred(c, a);
-    if a != checks::YES {
-        return c;
+impl Given {
+    fn to(check: Check, own: Check) -> Given {
+        if check != own {
+            return Given::Other;
+        }
+        match own {
+            Check::Excluded => Given::Excluded,
+            Check::Path => Given::Path,
+        }
     }
-    add(c, QUESTIONS, said.asked as u64)
+
+    fn name(self) -> &'static [u8] {
+        match self {
+            Given::Excluded => b"excluded states",
+            Given::Path => b"path",
+            Given::Other => b"the other check",
+        }
+    }
+}
+
+// Where an answer is counted.
+fn place_of(given: Given, way: Way, answer: Answer) -> usize {
+    given as usize * 32 + way as usize * 4 + answer as usize
+}
+
+impl Tally {
+    pub fn new() -> Tally {
+        Tally {
+            answers: Counts::new(),
+            totals: Counts::new(),
+        }
+    }
+
+    // A list of evidence.
+    pub fn found(&mut self, own: Check) {
+        let place = match own {
+            Check::Excluded => SAFE,
+            Check::Path => UNSAFE,
+        };
+        self.totals.add(place, 1);
+    }
+
+    // What a check said of k states, damaged in this way.
+    pub fn enter(
+        &mut self,
+        check: Check,
+        own: Check,
+        way: Way,
+        said: Checked,
+        wanted: Answer,
+        k: usize,
+    ) {
+        let answer = Answer::of(said);
+        self.answers
+            .add(place_of(Given::to(check, own), way, answer), 1);
+        self.totals.count(DIFFER, answer != wanted);
+        self.totals
+            .count(QUESTIONS_WRONG, !check.asks_right(said, k));
+        self.totals.stir(DIGEST, answer as u64);
+        if let Checked::Yes(asked) = said {
+            self.totals.add(QUESTIONS, asked as u64);
+        }
+    }
+
+    pub fn write(&self) {
+        io::write_all(
+            1,
+            b"                         yes, no, refused with 7, refused otherwise\n",
+        );
+        for given in [Given::Excluded, Given::Path, Given::Other] {
+            for way in WAYS {
+                counts::write_name(given.name(), 16);
+                counts::write_name(way.name(), 8);
+                for answer in ANSWERS {
+                    report(b" ", self.answers.at(place_of(given, way, answer)));
+                }
+                io::write_all(1, b"\n");
+            }
+        }
+        self.totals.write(
+            22,
+            &[
+                b"safe evidence",
+                b"unsafe evidence",
+                b"questions of all yes",
+                b"digest of all answers",
+                b"answered otherwise",
+                b"wrong question counts",
+            ],
+        );
+    }
 }
 
 pub fn report(name: &[u8], number: u64) {
     io::write_all(1, name);
     io::print_decimal(1, number);
-}
-
-// A name out of a row of names.
-pub fn write_name(names: &[u8], first: usize, width: usize) {
-    let end = std::num::wrapping_add_usize(first, width);
-    if first <= end {
-        if end <= names.len() {
-            io::write_all(1, &names[first..end]);
-        }
-    }
-}
-
-// The name of line j, behind a line feed.
-fn write_way(j: usize) {
-    io::write_all(1, b"\n");
-    write_name(
-        b"excluded states path            the other check ",
-        j / 8 % 3 * 16,
-        16,
-    );
-    write_name(
-        b"kept    removed replacedadded   swapped reversedtwice   empty   ",
-        j % 8 * 8,
-        8,
-    );
-}
-
-// Lines of four numbers.
-fn write_ways(counts: &[u64; 102]) {
-    io::write_all(
-        1,
-        b"                         yes, no, refused with 7, refused otherwise",
-    );
-    let mut j = 0;
-    while j < SAFE {
-        if j % 4 == 0 {
-            write_way(j / 4);
-        }
-        report(b" ", counts[j]);
-        j += 1;
-    }
-}
-
-// The six numbers behind the answers.
-fn write_totals(counts: &[u64; 102]) {
-    let mut j = 0;
-    while j < 6 {
-        write_name(
-            b"\nsafe evidence         \
-            \nunsafe evidence       \
-            \nquestions of all yes  \
-            \ndigest of all answers \
-            \nanswered otherwise    \
-            \nwrong question counts ",
-            j * 23,
-            23,
-        );
-        io::print_decimal(1, counts[SAFE + j]);
-        j += 1;
-    }
-    io::write_all(1, b"\n");
-}
-
-pub fn write(counts: &[u64; 102]) {
-    write_ways(counts);
-    write_totals(counts);
 }

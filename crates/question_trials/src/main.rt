@@ -1,5 +1,6 @@
-// Random questions, half of them from a number on, asked of the engine and answered by a walk over all states from there up. The walk tests a clause literal by literal and shares
-// no code with the engine. The file `stdout` is from `expected.py`, which makes the same questions and answers them once more.
+// Random questions, half of them from a number on, asked of the engine and answered by a walk over all states from there up. The walk tests a clause
+// literal by literal and shares no code with the engine. The file `stdout` is from `expected.py`, which makes the same questions and answers them once
+// more.
 #![tactic(auto)]
 
 ghost use Rattle.std.specs.Prelude.{◌≤◌};

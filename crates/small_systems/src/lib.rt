@@ -1,9 +1,10 @@
-// Small random systems, of 1 to 10 bits and a few wires, and a walk over all their states, on the tables of `tables`. It shares no code with the crates that it is
-// compared with. Each function takes every argument.
+// Small random systems, of 1 to 10 bits and a few wires, and a walk over all their states, on the tables of `tables`. It shares no code with the crates
+// that it is compared with. Each function takes every argument.
 #![tactic(auto)]
 
 ghost use Rattle.std.specs.Prelude.{◌≡◌, ◌%◌};
 ghost use Rattle.small_systems.specs.Kind.{number_of};
+ghost use Rattle.small_systems.specs.Random.{next_of};
 
 use tables::{Clause, Table};
 
@@ -140,7 +141,10 @@ fn any_of(literals: &[Literal]) -> Clause {
 }
 
 // The next random number (xorshift).
-pub fn next(seed: u64) -> u64 {
+#[tactic(auto, unfolding(crate::specs::Random::next_of))]
+pub fn next(seed: u64) -> u64
+    ensures { result ≡ next_of seed }
+{
     let a = seed ^ (seed << 13);
     let b = a ^ (a >> 7);
     b ^ (b << 17)
@@ -316,13 +320,14 @@ fn begin(table: Table, back: bool, dist: &mut [Option<u32>]) {
 
 // A step from a state at distance d to one that had none. Whether it was so.
 fn reach(dist: &mut [Option<u32>], from: usize, to: usize, d: u32) -> bool {
-    if from < dist.len() && to < dist.len() {
-        if dist[from] == Some(d) && dist[to].is_none() {
-            dist[to] = Some(d.wrapping_add(1));
-            return true;
-        }
+    let reached = from < dist.len()
+        && to < dist.len()
+        && dist[from] == Some(d)
+        && dist[to].is_none();
+    if reached {
+        dist[to] = Some(d.wrapping_add(1));
     }
-    false
+    reached
 }
 
 // Pair j, if it is a step, taken in its direction or back.

@@ -135,8 +135,8 @@ impl<'a> System<'a> {
     // The three lists written out, in 4^n + 2 * 2^n entries, as far as there is room. What is behind them stays.
     pub fn table<'b>(self, out: &'b mut [bool]) -> Table<'b> {
         let end = (1usize << (self.n % 16 * 2)).wrapping_add(2 << (self.n % 16));
-        for j in 0..end.min(out.len()) {
-            out[j] = self.entry(j);
+        for (j, x) in out.iter_mut().take(end).enumerate() {
+            *x = self.entry(j);
         }
         Table {
             n: self.n,
