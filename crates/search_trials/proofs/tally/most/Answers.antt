@@ -1,6 +1,6 @@
--- `search_trials::counts::most` is safe and ends. A product of two numbers that are no greater is no greater. Assumes nothing.
+-- `search_trials::tally::most` is safe and ends. A product of two numbers that are no greater is no greater. Assumes nothing.
 use Rattle.std.proofs.Common.{◌+◌, ◌*◌, ◌%◌, ◌≤◌, mul-le-mul, arith}
-use Rattle.search_trials.proofs.counts.most.Goals as goal
+use Rattle.search_trials.proofs.tally.most.Goals as goal
 
 pub overflow_mul-result-2 : goal.overflow_mul-result-2
 overflow_mul-result-2 c =
