@@ -1,0 +1,85 @@
+// Evidence, whole and damaged, given to both checks and held against the table.
+use super::places::PLACES;
+use super::{places, systems};
+use checks::Check;
+use counts::Counts;
+use evidence::Checked;
+use tables::{System, Table};
+
+// How many damages of one list are tried.
+const DAMAGES: u64 = 6;
+
+// Room for a damaged list.
+const ROOM: usize = 36;
+
+// What a check said, as a number: which answer it was, and in front of it the count of questions or the number of the refusal.
+fn number(said: Checked) -> u64 {
+    match said {
+        Checked::Yes(asked) => (asked as u64) << 2,
+        Checked::No(asked) => (asked as u64) << 2 | 1,
+        Checked::Refused(number) => u64::from(number) << 2 | 2,
+    }
+}
+
+// Where an answer is counted.
+fn place_of(said: Checked) -> usize {
+    match said {
+        Checked::Yes(_) => places::YES,
+        Checked::No(_) => places::NO,
+        Checked::Refused(_) => places::REFUSED,
+    }
+}
+
+// Whether a check said what it must say, by the table.
+fn is_right(said: Checked, check: Check, table: Table, list: &[u64]) -> bool {
+    let are_states = small_systems::are_states(table.n, list);
+    match said {
+        Checked::Yes(_) => are_states && check.holds(table, list),
+        Checked::No(_) => are_states && !check.holds(table, list),
+        Checked::Refused(_) => !are_states,
+    }
+}
+
+// A list given to both checks.
+fn both(counts: &mut Counts<PLACES>, s: System, table: Table, list: &[u64]) {
+    for check in [Check::Excluded, Check::Path] {
+        let said = check.ask(s, list);
+        counts.add(place_of(said), 1);
+        counts.count(places::CHECKS_WRONG, !is_right(said, check, table, list));
+        counts.stir(places::CHECKS, number(said));
+    }
+}
+
+// The list in front of zeros, with a number put at a place.
+fn copy(list: &[u64], place: usize, number: u64) -> [u64; ROOM] {
+    let mut out = [0; ROOM];
+    for (j, x) in out.iter_mut().enumerate() {
+        *x = if j == place {
+            number
+        } else {
+            list.get(j).copied().unwrap_or(0)
+        };
+    }
+    out
+}
+
+// One damage: a number up to 2^n at some place, or at the one behind the last; and the last one cut off, or kept, or one more.
+fn damage(counts: &mut Counts<PLACES>, s: System, table: Table, list: &[u64], random: u64) {
+    let ends = list.len().wrapping_add(1);
+    let place = systems::below(ends as u64, random >> 8) as usize;
+    let number = systems::below(tables::size(s.n) as u64 | 1, random >> 16);
+    let cut = ends.wrapping_sub((random >> 24) as usize % 3);
+    let made = copy(list, place, number);
+    let length = if list.is_empty() { 1 } else { cut };
+    both(counts, s, table, small_systems::front(&made, length));
+}
+
+// The list itself, and some damages.
+pub fn calls(counts: &mut Counts<PLACES>, s: System, table: Table, list: &[u64], seed: u64) {
+    both(counts, s, table, list);
+    let mut random = seed;
+    for _ in 0..DAMAGES {
+        random = small_systems::next(random);
+        damage(counts, s, table, list, random);
+    }
+}
