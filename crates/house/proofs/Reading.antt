@@ -13,7 +13,8 @@ use Rattle.stores.specs.Over.{over}
 use Rattle.house.specs.File.{Said, file, refused, said}
 use Rattle.stores.specs.Lists.{Lists, lists, filled}
 use Rattle.house.specs.Promise.{rooms_of, Report, Result, result_of, Reads}
-use Rattle.house.specs.Inner.{Lie, reading_of, Same, nothing, Took}
+use Rattle.house.specs.Inner.{lists_of, Lie, reading_of, Same, nothing, Took}
+use Rattle.house.specs.declared.enter.Lent.{Lent}
 use Rattle.house.specs.declared.enter.Reading.{Reading}
 use Rattle.stores.proofs.Lying.{lies_none}
 use Rattle.house.proofs.Taking.{rooms_same, same_then, took_lists, took_house}
@@ -86,3 +87,9 @@ module _ (text : List ℕ) (before cleared after : Lists) (e : cleared ≡ fille
         equation = result_of_lem (result_of before (refused (number_of f.refusal) f.line)) _ last refl (g ∙ filled_same before after s)
             ∙ ap (result_of before) (rw (rooms_same before cleared (cleared_same before cleared e)) at (sym t.tells));
       }
+
+-- what the three stores hold that were lent together, each holds
+pub reads_lent : (text : List ℕ) (before : Lists) (house : Report) (start step bad : List ℕ) (into : Lent)
+    → start ≡ into.start.now → step ≡ into.step.now → bad ≡ into.bad.now → Reads text before house (lists_of into)
+    → Reads text before house (lists start step bad)
+reads_lent text before house start step bad into e f g r = rw (e, f, g) r

@@ -11,11 +11,22 @@ use Rattle.base.specs.declared.Fault.{Fault}
 use Rattle.line.specs.Says.{Line}
 use Rattle.house.specs.File.{clause_of, taken_as, line_taken, on, refuse, file, refused, read_lines, said}
 use Rattle.house.specs.File as file
-use Rattle.stores.specs.Lists.{Lists}
+use Rattle.stores.specs.Lists.{Lists, lists}
 use Rattle.house.specs.Promise.{rooms_of}
+use Rattle.house.specs.declared.enter.Lent.{Lent}
 use Rattle.house.specs.declared.enter.Reading.{Reading}
 
 -- ---- what was read
+-- the three lent stores
+abbrev pub lists_of : Lent → Lists
+lists_of l = lists l.start.now l.step.now l.bad.now
+
+-- they are the stores that were lent, and no others
+pub record Keeps (before after : Lent) : Type 0 where
+  pub start : after.start.ghost_name ≡ before.start.ghost_name
+  pub step : after.step.ghost_name ≡ before.step.ghost_name
+  pub bad : after.bad.ghost_name ≡ before.bad.ghost_name
+
 -- a clause's four masks more, if there is room
 pub record PutAs (store : List ℕ) (count ones zeros : ℕ) (done : Bool) (store' : List ℕ) : Type 0 where
   pub room : done ≡ leb (count + 4) (length store)

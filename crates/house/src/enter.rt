@@ -4,13 +4,20 @@
 // refusal nothing but the stores' lengths is promised, since the reader clears them.
 ghost use Rattle.std.specs.Prelude.{◌≡◌, Ok, take, drop};
 ghost use Rattle.stores.specs.Lies.{Lies};
-ghost use Rattle.stores.specs.Lists.{lists};
 ghost use Rattle.line.specs.Says.{Clause};
 ghost use Rattle.line.specs.Told.{number_of, said_of};
-ghost use Rattle.house.specs.Inner.{PutAs, Lie, Ready, one_more, Enters, Takes};
+ghost use Rattle.house.specs.Inner.{lists_of, Keeps, PutAs, Lie, Ready, one_more, Enters, Takes};
 
 use base::Refusal;
 use line::{Line, List, parse};
+
+// The three lent stores.
+#[derive(Drop)]
+pub(super) struct Lent<'a> {
+    pub(super) start: &'a mut [u64],
+    pub(super) step: &'a mut [u64],
+    pub(super) bad: &'a mut [u64],
+}
 
 // What was read so far: the stage, n, the count of clause lines, and each list's count of masks.
 #[derive(Clone, Copy)]
@@ -72,26 +79,25 @@ fn enter_clause(
     list: List,
     ones: u64,
     zeros: u64,
-    start: &mut [u64],
-    step: &mut [u64],
-    bad: &mut [u64],
+    into: &mut Lent,
 ) -> Result<Reading, Refusal>
-    requires { Lie r (lists start.old step.old bad.old) }
-    ensures { Enters r (Clause (number_of list) ones zeros)
-        (lists start.old step.old bad.old)
-        result (lists start.new step.new bad.new) }
+    requires { Lie r (lists_of into.old) }
+    ensures lists { Enters r (Clause (number_of list) ones zeros)
+        (lists_of into.old)
+        result (lists_of into.new) }
+    ensures kept { Keeps into.old into.new }
 {
     match list {
         List::Start => {
-            let room = put(start, r.start, ones, zeros);
+            let room = put(&mut *into.start, r.start, ones, zeros);
             one_more(room, 1, r, r.start + 4, r.step, r.bad)
         }
         List::Step => {
-            let room = put(step, r.step, ones, zeros);
+            let room = put(&mut *into.step, r.step, ones, zeros);
             one_more(room, 2, r, r.start, r.step + 4, r.bad)
         }
         List::Bad => {
-            let room = put(bad, r.bad, ones, zeros);
+            let room = put(&mut *into.bad, r.bad, ones, zeros);
             one_more(room, 3, r, r.start, r.step, r.bad + 4)
         }
     }
@@ -101,14 +107,13 @@ fn enter_clause(
 fn enter(
     r: Reading,
     said: Line,
-    start: &mut [u64],
-    step: &mut [u64],
-    bad: &mut [u64],
+    into: &mut Lent,
 ) -> Result<Reading, Refusal>
-    requires { Lie r (lists start.old step.old bad.old) }
-    ensures { Enters r (said_of (Ok said))
-        (lists start.old step.old bad.old)
-        result (lists start.new step.new bad.new) }
+    requires { Lie r (lists_of into.old) }
+    ensures lists { Enters r (said_of (Ok said))
+        (lists_of into.old)
+        result (lists_of into.new) }
+    ensures kept { Keeps into.old into.new }
 {
     match said {
         Line::Size(n) => Ok(Reading {
@@ -119,7 +124,7 @@ fn enter(
             step: r.step,
             bad: r.bad,
         }),
-        Line::Clause { list, ones, zeros } => enter_clause(r, list, ones, zeros, start, step, bad),
+        Line::Clause { list, ones, zeros } => enter_clause(r, list, ones, zeros, into),
         Line::Count(count) => {
             if count != r.clauses {
                 return Err(Refusal::Count);
@@ -142,16 +147,15 @@ pub(super) fn take_line(
     at: usize,
     len: usize,
     r: Reading,
-    start: &mut [u64],
-    step: &mut [u64],
-    bad: &mut [u64],
+    into: &mut Lent,
 ) -> Result<Reading, Refusal>
-    requires { Ready text.now at len r (lists start.old step.old bad.old) }
-    ensures { Takes r (take len (drop at text.now))
-        (lists start.old step.old bad.old)
-        result (lists start.new step.new bad.new) }
+    requires { Ready text.now at len r (lists_of into.old) }
+    ensures lists { Takes r (take len (drop at text.now))
+        (lists_of into.old)
+        result (lists_of into.new) }
+    ensures kept { Keeps into.old into.new }
 {
     let end = at + len;
     let said = parse(&text[at..end], r.stage)?;
-    enter(r, said, start, step, bad)
+    enter(r, said, into)
 }

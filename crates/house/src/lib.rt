@@ -10,10 +10,10 @@ ghost use Rattle.std.specs.Prelude.{◌≡◌, []};
 ghost use Rattle.stores.specs.Lists.{lists, filled};
 ghost use Rattle.house.specs.Promise.{Reads};
 ghost use Rattle.house.specs.Told.{report_of};
-ghost use Rattle.house.specs.Inner.{Lie, nothing, Took};
+ghost use Rattle.house.specs.Inner.{lists_of, Keeps, Lie, nothing, Took};
 
 use base::{Fault, Refusal};
-use enter::{Reading, take_line};
+use enter::{Lent, Reading, take_line};
 use text::Reader;
 
 // What a file says: n and the counts of masks.
@@ -27,16 +27,10 @@ pub struct House {
 
 // All lines of the text, into stores that are all zero. A reader keeps the text and its place in it, and its place moves by a line a turn. Refusal 10: the
 // file stops before 0F.
-fn take_lines(
-    text: &[u8],
-    start: &mut [u64],
-    step: &mut [u64],
-    bad: &mut [u64],
-) -> Result<Reading, Fault>
-    requires { Lie nothing (lists start.old step.old bad.old) }
-    ensures { Took text.now
-        (lists start.old step.old bad.old)
-        result (lists start.new step.new bad.new) }
+fn take_lines(text: &[u8], into: &mut Lent) -> Result<Reading, Fault>
+    requires { Lie nothing (lists_of into.old) }
+    ensures lists { Took text.now (lists_of into.old) result (lists_of into.new) }
+    ensures kept { Keeps into.old into.new }
 {
     let mut r = Reader::new(text);
     let mut reading = Reading {
@@ -51,7 +45,7 @@ fn take_lines(
     while r.at < text.len() {
         let at = r.at;
         r = r.next_line();
-        let taken = take_line(text, at, r.at - at, reading, start, step, bad);
+        let taken = take_line(text, at, r.at - at, reading, into);
         match taken {
             Ok(next) => {
                 reading = next;
@@ -72,13 +66,33 @@ fn take_lines(
 }
 
 // All three stores become zero.
-fn clear_stores(start: &mut [u64], step: &mut [u64], bad: &mut [u64])
-    ensures { lists start.new step.new bad.new
-        ≡ filled (lists start.old step.old bad.old) [] [] [] }
+fn clear(into: &mut Lent)
+    ensures lists { lists_of into.new ≡ filled (lists_of into.old) [] [] [] }
+    ensures kept { Keeps into.old into.new }
 {
-    stores::clear(start);
-    stores::clear(step);
-    stores::clear(bad);
+    stores::clear(&mut *into.start);
+    stores::clear(&mut *into.step);
+    stores::clear(&mut *into.bad);
+}
+
+// A house file, into the three stores.
+fn read_into(text: &[u8], into: &mut Lent) -> Result<House, Fault>
+    ensures lists { Reads text.now (lists_of into.old) (report_of result) (lists_of into.new) }
+    ensures kept { Keeps into.old into.new }
+{
+    clear(into);
+    match take_lines(text, into) {
+        Ok(r) => Ok(House {
+            n: r.n,
+            start: r.start,
+            step: r.step,
+            bad: r.bad,
+        }),
+        Err(fault) => {
+            clear(into);
+            Err(fault)
+        }
+    }
 }
 
 // A house file: its n and lists, or the first refusal and its line. After a refusal the stores are all zero; else all behind each list is zero.
@@ -92,17 +106,6 @@ pub fn read(
         (lists start.old step.old bad.old)
         (report_of result) (lists start.new step.new bad.new) }
 {
-    clear_stores(start, step, bad);
-    match take_lines(text, start, step, bad) {
-        Ok(r) => Ok(House {
-            n: r.n,
-            start: r.start,
-            step: r.step,
-            bad: r.bad,
-        }),
-        Err(fault) => {
-            clear_stores(start, step, bad);
-            Err(fault)
-        }
-    }
+    let mut into = Lent { start, step, bad };
+    read_into(text, &mut into)
 }

@@ -1,12 +1,6 @@
--- `house::read` meets its contract: the lines are taken into cleared stores, and after a refusal these are cleared again. Assumes nothing.
-use Rattle.house.proofs.Reading.{cleared_lie, reads_file, reads_refused}
+use Rattle.house.proofs.Reading.{reads_lent}
 use Rattle.house.proofs.read.Goals as goal
+use borrow.Author.Rules.{rules}
 
-pub take_lines-requires : goal.take_lines-requires
-take_lines-requires c = cleared_lie _ _ c.clear_stores.ensures
-
-pub returns-in-Ok : goal.returns-in-Ok
-returns-in-Ok c = reads_file _ _ _ _ c.clear_stores.ensures _ c.in-Ok.ensures
-
-pub returns-in-Err : goal.returns-in-Err
-returns-in-Err c = reads_refused _ _ _ _ c.clear_stores.ensures _ c.in-Err.ensures _ c.clear_stores-in-Err.ensures
+pub returns : goal.returns
+returns c = reads_lent _ _ _ _ _ _ c.read_into.new.into (search rules) (search rules) (search rules) c.read_into.ensures.lists

@@ -4,6 +4,7 @@ use native.Mathlib.Omega.{arith}
 use lib.ListN.{drop}
 use Rattle.text.specs.Lines.{line_length}
 use Rattle.text.proofs.Lines.{line_at}
+use borrow.Author.Rules.{rules}
 use Rattle.house.proofs.Entering.{same_refl}
 use Rattle.house.proofs.Taking.{stands_first, line_here, turned_on, turned_refused, ended, stopped, same_then}
 use Rattle.house.proofs.take_lines.Goals as goal
@@ -14,16 +15,16 @@ place : (c : After-next_line-r) → c.next_line-r.result.at ≡ c.loop-r.r.at + 
 place c = rw (c.next_line-r.ensures, c.loop-r.invariant.text)
 
 pub loop-r-init : goal.loop-r-init
-loop-r-init c = record { text = rw c.new-r.ensures; same = same_refl _; stands = rw c.new-r.ensures (stands_first _ _ c.requires) }
+loop-r-init c = record { text = rw c.new-r.ensures; kept = search rules; same = same_refl _; stands = rw c.new-r.ensures (stands_first _ _ c.requires) }
 
 pub take_line-taken-requires : goal.take_line-taken-requires
 take_line-taken-requires c =
     record { line = line_here c.loop-r.invariant.stands c.loop-r-test.true (place (goal.at.take_line-taken-requires c).After-next_line-r); lie = c.loop-r.invariant.stands.lie }
 
-pub returns-in-Err : goal.returns-in-Err
-returns-in-Err c =
-    turned_refused c.loop-r.invariant.stands c.loop-r-test.true (place (goal.at.returns-in-Err c).After-next_line-r) _ c.loop-r.invariant.same
-    c.in-Err.ensures
+pub returns-in-Err-clause-lists : goal.returns-in-Err-clause-lists
+returns-in-Err-clause-lists c =
+    turned_refused c.loop-r.invariant.stands c.loop-r-test.true (place (goal.at.returns-in-Err-clause-lists c).After-next_line-r) _ c.loop-r.invariant.same
+    c.in-Err.ensures.lists
 
 pub loop-r-smaller : goal.loop-r-smaller
 loop-r-smaller c =
@@ -34,12 +35,13 @@ pub loop-r-preserved : goal.loop-r-preserved
 loop-r-preserved c =
     record {
       text = rw c.next_line-r.ensures c.loop-r.invariant.text;
-      same = same_then _ _ _ c.loop-r.invariant.same c.in-Ok.ensures.same;
-      stands = turned_on c.loop-r.invariant.stands c.loop-r-test.true (place (goal.at.loop-r-preserved c).After-next_line-r) c.in-Ok.ensures;
+      kept = search rules;
+      same = same_then _ _ _ c.loop-r.invariant.same c.in-Ok.ensures.lists.same;
+      stands = turned_on c.loop-r.invariant.stands c.loop-r-test.true (place (goal.at.loop-r-preserved c).After-next_line-r) c.in-Ok.ensures.lists;
     }
 
-pub returns-then-reading-ne16 : goal.returns-then-reading-ne16
-returns-then-reading-ne16 c = stopped c.loop-r.invariant.stands _ c.loop-r-test.false c.loop-r.invariant.same c.if-reading-ne16.true
+pub returns-then-reading-ne16-clause-lists : goal.returns-then-reading-ne16-clause-lists
+returns-then-reading-ne16-clause-lists c = stopped c.loop-r.invariant.stands _ c.loop-r-test.false c.loop-r.invariant.same c.if-reading-ne16.true
 
-pub returns : goal.returns
-returns c = ended c.loop-r.invariant.stands _ c.loop-r-test.false c.loop-r.invariant.same c.if-reading-ne16.false
+pub returns-clause-lists : goal.returns-clause-lists
+returns-clause-lists c = ended c.loop-r.invariant.stands _ c.loop-r-test.false c.loop-r.invariant.same c.if-reading-ne16.false

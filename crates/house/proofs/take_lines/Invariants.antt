@@ -3,16 +3,16 @@
 use Prim.Native.Nat.{◌-◌}
 use mathlib.Core.Path.{◌≡◌}
 use lib.ListN.{length}
-use Rattle.stores.specs.Lists.{lists}
-use Rattle.house.specs.Inner.{Same, Stands}
+use Rattle.house.specs.Inner.{lists_of, Keeps, Same, Stands}
 use Rattle.house.proofs.take_lines.Given as goal
 
 abbrev pub invariant-loop-r : goal.invariant-loop-r
 invariant-loop-r l =
     record {
       text : l.r.text.now ≡ l.text;
-      same : Same (lists l.fn.start l.fn.step l.fn.bad) (lists l.start l.step l.bad);
-      stands : Stands l.text l.r.at l.line l.reading (lists l.start l.step l.bad);
+      kept : Keeps l.fn.into l.into;
+      same : Same (lists_of l.fn.into) (lists_of l.into);
+      stands : Stands l.text l.r.at l.line l.reading (lists_of l.into);
     }
 
 abbrev pub decreases-loop-r : goal.decreases-loop-r

@@ -4,14 +4,14 @@ use native.Mathlib.Omega.{arith}
 use Rattle.house.proofs.Entering.{start_put, step_put, bad_put}
 use Rattle.house.proofs.enter.enter_clause.Goals as goal
 
-pub returns-in-Start : goal.returns-in-Start
-returns-in-Start c =
+pub returns-in-Start-clause-lists : goal.returns-in-Start-clause-lists
+returns-in-Start-clause-lists c =
     rw (c.in-Start.is, c.one_more.ensures) (start_put c.requires refl c.put-room.ensures)
 
-pub returns-in-Step : goal.returns-in-Step
-returns-in-Step c =
+pub returns-in-Step-clause-lists : goal.returns-in-Step-clause-lists
+returns-in-Step-clause-lists c =
     rw (c.in-Step.is, c.one_more-in-Step.ensures) (step_put c.requires refl c.put-room-in-Step.ensures)
 
-pub returns-in-Bad : goal.returns-in-Bad
-returns-in-Bad c =
+pub returns-in-Bad-clause-lists : goal.returns-in-Bad-clause-lists
+returns-in-Bad-clause-lists c =
     rw (c.in-Bad.is, c.one_more-in-Bad.ensures) (bad_put c.requires (λ e. omega arith) (λ e. omega arith) c.put-room-in-Bad.ensures)

@@ -7,14 +7,14 @@ use Rattle.house.proofs.Entering.{line_wrong}
 use Rattle.house.proofs.Taking.{line_entered}
 use Rattle.house.proofs.enter.take_line.Goals as goal
 
-pub returns : goal.returns
-returns c =
+pub returns-clause-lists : goal.returns-clause-lists
+returns-clause-lists c =
     let a = c.args in
     let size : a.at + a.len - a.at ≡ a.len = omega arith in
-    line_entered _ a.r _ _ _ _ (rw size at c.in_ok-said.ensures) c.enter.ensures
+    line_entered _ a.r _ _ _ _ (rw size at c.in_ok-said.ensures) c.enter.ensures.lists
 
-pub returns-in_err-said : goal.returns-in_err-said
-returns-in_err-said c =
+pub returns-in_err-said-clause-lists : goal.returns-in_err-said-clause-lists
+returns-in_err-said-clause-lists c =
     let a = c.args in
     let size : a.at + a.len - a.at ≡ a.len = omega arith in
     let p = err_from_is_err_and c.from_residual.result c.from_residual.ensures.1 in
