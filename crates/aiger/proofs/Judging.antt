@@ -27,14 +27,12 @@ use Rattle.circuit.proofs.Refusals.{twice_distinct}
 use Rattle.aiger.specs.Text.{firsts, vars, latches_of, gates_of, circuit_of}
 use Rattle.aiger.specs.Inner.{known_in, start_list, LoopFree, Sized, too_few, Held, circuit_in}
 use Rattle.aiger.specs.Inner.{wrong_rows, shared_count, short, last_refusal}
-use Rattle.aiger.specs.Promise.{Result, refused_at, line_for, imported_as}
-use Rattle.aiger.specs.declared.Imported.{Imported}
 use Rattle.aiger.specs.declared.read.Header.{Header}
 use Rattle.aiger.specs.declared.read.Reading.{Reading}
 use Rattle.aiger.proofs.Slices.{rest_slice}
 use Rattle.aiger.proofs.Threes.{threes_append, outs_rows, latches_rows, latches_many}
 use Rattle.aiger.proofs.Entering.{starts_many}
-use Rattle.aiger.proofs.Heading.{header_tests, header_limits, counted_latches, counted_inputs, counted_gates, counted_singles, refused}
+use Rattle.aiger.proofs.Heading.{header_tests, header_limits, counted_latches, counted_inputs, counted_gates, counted_singles}
 use Rattle.aiger.proofs.Knowing.{starts_known, gates_known}
 
 -- ---- the last refusals
@@ -250,35 +248,24 @@ module _ {text : List ℕ} {r : Reading} {rows : List ℕ} (h : Held text r rows
     abbrev last : ℕ
     last = last_refusal H h.latches a b d
 
-    last_found : number ≡ last
+    pub last_found : number ≡ last
     last_found = found ∙ ap (λ (ls : List ℕ). last_refusal H ls a b d) latch_rows
 
     pub last_none : number ≡ 0 → last ≡ 0
     last_none e = sym last_found ∙ e
 
-    -- the last refusals have no line, but for 26, which is the header's
-    other_line : (last ≡ 26 → ⊥) → line_for (circuit_in h) last ≡ 0
-    unfolding last_refusal line_for
-    other_line f =
+    -- the last refusals are none of a start value
+    pub last_other : number ≡ 28 → ⊥
+    unfolding last_refusal
+    last_other e =
         pick (eqb H.outputs 0 && eqb H.bads 0) (short H (length (start_list h.latches)) a b d)
-        (ltb most_clauses (2 * H.latches + shared_count H)) f
+        (ltb most_clauses (2 * H.latches + shared_count H)) (sym last_found ∙ e)
       where
-        pick : (x y z : Bool) → ((26 if x else 32 if y else 2 if z) ≡ 26 → ⊥) → line_for (circuit_in h) (26 if x else 32 if y else 2 if z) ≡ 0
-        pick true y z f = absurd (f refl)
-        pick false true z f = refl
-        pick false false true f = refl
-        pick false false false f = refl
-
-    last_line : (line : ℕ) → ((number ≡ 26) × (line ≡ 1)) ⊎ ((number ≡ 26 → ⊥) × (line ≡ 0)) → line_for (circuit_in h) number ≡ line
-    unfolding line_for
-    last_line line (inl w) = ap (line_for (circuit_in h)) w.0 ∙ sym w.1
-    last_line line (inr w) = ap (line_for (circuit_in h)) last_found ∙ (other_line (λ e. w.0 (last_found ∙ e)) ∙ sym w.1)
-
-    pub last_refused : (lent : Lists) {i : Imported} {line : ℕ} → import_refusal H.m (circuit_in h) a b d ≡ last → (number ≡ 0 → ⊥)
-        → ((number ≡ 26) × (line ≡ 1)) ⊎ ((number ≡ 26 → ⊥) × (line ≡ 0)) → i ≡ refused_at number line
-        → ◌≡◌ {A = Result} (record { import = i; after = lent }) (imported_as lent (circuit_in h) (import_refusal H.m (circuit_in h) a b d))
-    last_refused lent {line = line} e f w i =
-        refused lent (circuit_in h) (e ∙ sym last_found) (⊎_elim (λ z. absurd (f z)) (λ p. p) (eq-zero-or-pos number)) (last_line line w) i
+        pick : (x y z : Bool) → (26 if x else 32 if y else 2 if z) ≡ 28 → ⊥
+        pick true y z f = omega arith
+        pick false true z f = omega arith
+        pick false false true f = omega arith
+        pick false false false f = omega arith
 
   -- no gate's variable is defined twice where no row's is
   pub held_loops : wrong_rows rows H ≡ false → (found : Bool)

@@ -6,13 +6,17 @@ use mathlib.Core.Bool.{Bool, true, ◌&&◌, and-false}
 use mathlib.Core.List.{List, [], ◌∷◌}
 use mathlib.Core.Logic.{⊎_elim}
 use mathlib.Core.Option.{Option, none, some}
-use mathlib.Core.Path.{◌≡◌, refl, sym, ap, ◌∙◌}
+use mathlib.Core.Path.{◌≡◌, refl, sym, ap, subst, ◌∙◌}
 use native.Mathlib.Nat.{eq-zero-or-pos}
 use native.Mathlib.Omega.{arith}
 use borrow.Author.Tests.{eq-eqb, eqb-true, le-leb, lt-leb}
 use lib.Dec.{eqb, leb}
 use lib.ListN.{length, get_or, take, drop, replicate, length-drop, drop_of_length-le, length-replicate}
 use lib.Seq.{take_all, take-nil}
+use Rattle.std.specs.Prelude.{Result, Ok, Err}
+use Rattle.base.specs.Numbers.{number_of}
+use Rattle.base.specs.declared.Fault.{Fault}
+use Rattle.base.specs.declared.Refusal.TheVariants as refusal
 use Rattle.base.proofs.Tests.{test, both, clash, lt_or_ge}
 use Rattle.aiger.specs.Numbers.{numbers}
 use Rattle.text.specs.Lines.{lines, line_length}
@@ -20,7 +24,7 @@ use Rattle.text.specs.Writing.{laid}
 use Rattle.text.proofs.Lines.{line_at, line_end}
 use Rattle.aiger.specs.Text.{Part, broken, whole, part, begins, magic, most_counts, header_by, header_from, header_of, Told, malformed, behind}
 use Rattle.aiger.specs.Text.{defines, latch_form, uses, singles_of, parts_of, asks_justice, behind_header, lines_tell, tells}
-use Rattle.aiger.specs.Inner.{Numbered, Small, begun, fault_at, Takes, ReadAs}
+use Rattle.aiger.specs.Inner.{Numbered, Small, begun, wrong_form, Takes, Kept, ReadAs}
 use Rattle.aiger.specs.declared.part.Form.{Form}
 use Rattle.aiger.specs.declared.part.Progress.{Progress}
 use Rattle.aiger.specs.declared.read.Header.{Header}
@@ -146,44 +150,58 @@ unfolding behind
 behind_whole next e = ap (λ p. behind p next) e
 
 -- what is wrong with the form
-read_fault : {text : List ℕ} {what : Told} {before : List ℕ} {h : Header} {number k : ℕ} {r : Reading} {after : List ℕ} → r ≡ fault_at h number k
-    → 1 ≤ number → what ≡ malformed number k → length after ≡ length before → ReadAs text what before r after
-read_fault e least says same =
-    rw e (record { same = same; wrong = λ f. says; right = λ z. absurd (omega arith) })
+read_fault : {text : List ℕ} {what : Told} {before : List ℕ} {f : Fault} {after : List ℕ} → what ≡ malformed (number_of f.refusal) f.line
+    → length after ≡ length before → ReadAs text what before (Err f) after
+read_fault {what = what} {f = f} says same =
+    record {
+      same = same;
+      wrong = λ g e. let q : f ≡ g = cc in subst (λ (x : Fault). what ≡ malformed (number_of x.refusal) x.line) q says;
+      right = λ q e. cc;
+    }
+
+-- what was kept
+read_kept : {text : List ℕ} {what : Told} {before : List ℕ} {q : Reading} {after : List ℕ} → Kept text what before q after
+    → length after ≡ length before → ReadAs text what before (Ok q) after
+read_kept {text} {what} {before} {q} {after} kept same =
+    record {
+      same = same;
+      wrong = λ f e. cc;
+      right = λ r e. let f : q ≡ r = cc in subst (λ (x : Reading). Kept text what before x after) f kept;
+    }
 
 -- the part that was taken has a line at fault, and so has the text
 module _ {text : List ℕ} {form : Form} {count line at row : ℕ} {before : List ℕ} {q : Progress} {after : List ℕ}
     (t : Takes text (begun form count line at row) before q after) (e : q.fault ≡ true) where
-  faulty_part : {what : Told} {first : List ℕ} {h : Header} {r : Reading} → length before ≡ length first
-      → (part form count line (lines (drop at text)) ≡ broken q.line → what ≡ malformed 20 q.line) → r ≡ fault_at h 20 q.line
-      → ReadAs text what first r after
-  faulty_part same says f = read_fault f (omega arith) (says (part_fault t e)) (part_length t ∙ same)
+  faulty_part : {what : Told} {first : List ℕ} {f : Fault} → length before ≡ length first
+      → (part form count line (lines (drop at text)) ≡ broken q.line → what ≡ malformed 20 q.line)
+      → f ≡ wrong_form q.line → ReadAs text what first (Err f) after
+  faulty_part same says f = rw f (read_fault {f = wrong_form q.line} (says (part_fault t e)) (part_length t ∙ same))
 
 module _ (text : List ℕ) (h : Header) (at : ℕ) (before : List ℕ) where
-  pub fault_inputs : {q : Progress} {b : List ℕ} {r : Reading} → Takes text (begun (defines h 1) h.inputs 2 at (3 * h.latches)) before q b
-      → q.fault ≡ true → r ≡ fault_at h 20 q.line → ReadAs text (parts_of h (lines (drop at text))) before r b
+  pub fault_inputs : {q : Progress} {b : List ℕ} {f : Fault} → Takes text (begun (defines h 1) h.inputs 2 at (3 * h.latches)) before q b
+      → q.fault ≡ true → f ≡ wrong_form q.line → ReadAs text (parts_of h (lines (drop at text))) before (Err f) b
   unfolding parts_of
   fault_inputs t e f = faulty_part t e refl (λ w. behind_broken _ w) f
 
   module _ {q : Progress} {b : List ℕ} (inputs : Read text (defines h 1) h.inputs 2 at (3 * h.latches) before q b) where
-    pub fault_latches : {q' : Progress} {b' : List ℕ} {r : Reading} → Takes text (begun (latch_form h) h.latches q.line q.at 0) b q' b'
-        → q'.fault ≡ true → r ≡ fault_at h 20 q'.line → ReadAs text (parts_of h (lines (drop at text))) before r b'
+    pub fault_latches : {q' : Progress} {b' : List ℕ} {f : Fault} → Takes text (begun (latch_form h) h.latches q.line q.at 0) b q' b'
+        → q'.fault ≡ true → f ≡ wrong_form q'.line → ReadAs text (parts_of h (lines (drop at text))) before (Err f) b'
     unfolding parts_of
     fault_latches t e f = faulty_part t e inputs.same (λ w. behind_whole _ inputs.says ∙ behind_broken _ w) f
 
     module _ {q' : Progress} {b' : List ℕ} (latches : Read text (latch_form h) h.latches q.line q.at 0 b q' b') where
-      pub fault_singles : {row : ℕ} {p : Progress} {d : List ℕ} {r : Reading}
+      pub fault_singles : {row : ℕ} {p : Progress} {d : List ℕ} {f : Fault}
           → Takes text (begun (uses h) (singles_of h) q'.line q'.at row) b' p d
-          → p.fault ≡ true → r ≡ fault_at h 20 p.line → ReadAs text (parts_of h (lines (drop at text))) before r d
+          → p.fault ≡ true → f ≡ wrong_form p.line → ReadAs text (parts_of h (lines (drop at text))) before (Err f) d
       unfolding parts_of
       fault_singles t e f =
           faulty_part t e (latches.same ∙ inputs.same)
           (λ w. behind_whole _ inputs.says ∙ (behind_whole _ latches.says ∙ behind_broken _ w)) f
 
       module _ {row : ℕ} {p : Progress} {d : List ℕ} (singles : Read text (uses h) (singles_of h) q'.line q'.at row b' p d) where
-        pub fault_gates : {p' : Progress} {d' : List ℕ} {r : Reading}
+        pub fault_gates : {p' : Progress} {d' : List ℕ} {f : Fault}
             → Takes text (begun (defines h 3) h.gates p.line p.at (3 * h.latches + 3 * h.inputs)) d p' d' → p'.fault ≡ true
-            → r ≡ fault_at h 20 p'.line → ReadAs text (parts_of h (lines (drop at text))) before r d'
+            → f ≡ wrong_form p'.line → ReadAs text (parts_of h (lines (drop at text))) before (Err f) d'
         unfolding parts_of
         fault_gates t e f =
             faulty_part t e (singles.same ∙ (latches.same ∙ inputs.same))
@@ -194,48 +212,44 @@ module _ (text : List ℕ) (h : Header) (at : ℕ) (before : List ℕ) where
         pub parts_right : {p' : Progress} {d' : List ℕ} → at ≤ length text → Small h → length b' ≤ row
             → Read text (defines h 3) h.gates p.line p.at (3 * h.latches + 3 * h.inputs) d p' d'
             → ReadAs text (parts_of h (lines (drop at text))) before
-            (record { number = 0; line = 0; header = h; latches = q.at; singles = q'.at }) d'
+            (Ok (record { header = h; latches = q.at; singles = q'.at })) d'
         unfolding parts_of
         parts_right first small beyond gates =
-            record {
-              same = gates.same ∙ (singles.same ∙ (latches.same ∙ inputs.same));
-              wrong = λ f. absurd (f refl);
-              right = λ z.
-                  record {
-                    inputs = inputs.rows;
-                    latches = latches.rows;
-                    singles = singles.rows;
-                    gates = gates.rows;
-                    says = behind_whole _ inputs.says
-                        ∙ (behind_whole _ latches.says ∙ (behind_whole _ singles.says ∙ behind_whole _ gates.says));
-                    counted = record {
-                      small = small;
-                      many_inputs = inputs.shape.many;
-                      many_latches = latches.shape.many;
-                      many_singles = singles.shape.many;
-                      many_gates = gates.shape.many;
-                      latches_again = (_, record { within = inputs.within; from = _; line = _; says = latches.says });
-                      singles_again = (_, record { within = latches.within; from = _; line = _; says = singles.says });
-                    };
-                    content = gates.content
-                        ∙ ap (laid (3 * h.latches + 3 * h.inputs) gates.rows)
-                        (singles.content
-                        ∙ (laid_beyond row singles.rows b' beyond ∙ (latches.content ∙ ap (laid 0 latches.rows) inputs.content)));
-                  };
-            }
+          read_kept (record {
+            inputs = inputs.rows;
+            latches = latches.rows;
+            singles = singles.rows;
+            gates = gates.rows;
+            says = behind_whole _ inputs.says
+                ∙ (behind_whole _ latches.says ∙ (behind_whole _ singles.says ∙ behind_whole _ gates.says));
+            counted = record {
+              small = small;
+              many_inputs = inputs.shape.many;
+              many_latches = latches.shape.many;
+              many_singles = singles.shape.many;
+              many_gates = gates.shape.many;
+              latches_again = (_, record { within = inputs.within; from = _; line = _; says = latches.says });
+              singles_again = (_, record { within = latches.within; from = _; line = _; says = singles.says });
+            };
+            content = gates.content
+                ∙ ap (laid (3 * h.latches + 3 * h.inputs) gates.rows)
+                (singles.content
+                ∙ (laid_beyond row singles.rows b' beyond ∙ (latches.content ∙ ap (laid 0 latches.rows) inputs.content)));
+          })
+          (gates.same ∙ (singles.same ∙ (latches.same ∙ inputs.same)))
 
 -- a header that asks for more than safety
 module _ (text : List ℕ) (h : Header) (ls : List (List ℕ)) where
-  pub read_justice : {before : List ℕ} {r : Reading} → ((h.justice ≡ 0) × (h.fairness ≡ 0) → ⊥) → r ≡ fault_at h 27 1
-      → ReadAs text (behind_header h ls) before r before
+  pub read_justice : {before : List ℕ} → ((h.justice ≡ 0) × (h.fairness ≡ 0) → ⊥)
+      → ReadAs text (behind_header h ls) before (Err (record { refusal = refusal.Justice; line = 1 })) before
   unfolding behind_header asks_justice
-  read_justice f e =
-      read_fault e (omega arith)
+  read_justice f =
+      read_fault
       (test (eqb h.justice 0 && eqb h.fairness 0)
       (λ b. let p = both _ _ b in absurd (f (eqb-true h.justice 0 p.0, eqb-true h.fairness 0 p.1)))
       (λ b. rw (b, behind_header))) refl
 
-  pub read_safety : {before : List ℕ} {r : Reading} {after : List ℕ} → h.justice ≡ 0 → h.fairness ≡ 0
+  pub read_safety : {before : List ℕ} {r : Result Reading Fault} {after : List ℕ} → h.justice ≡ 0 → h.fairness ≡ 0
       → ReadAs text (parts_of h ls) before r after → ReadAs text (behind_header h ls) before r after
   unfolding behind_header asks_justice
   read_safety e f t = rw (eq-eqb h.justice 0 e, eq-eqb h.fairness 0 f, behind_header) t
@@ -273,13 +287,13 @@ module _ (newer : Bool) where
         (lt_or_ge 0 (length text))
 
     -- the parts are read behind a header, and nothing is read behind any other line
-    pub read_header : {h : Header} {before : List ℕ} {r : Reading} {after : List ℕ} → header_of newer (take end text) ≡ some h
+    pub read_header : {h : Header} {before : List ℕ} {r : Result Reading Fault} {after : List ℕ} → header_of newer (take end text) ≡ some h
         → ReadAs text (behind_header h (lines (drop end text))) before r after → ReadAs text (tells newer text) before r after
     read_header f t = rw (tells_first ∙ ap (λ o. behind_head o (lines (drop end text))) f) t
 
-    pub read_other : {h : Header} {before : List ℕ} {r : Reading} → header_of newer (take end text) ≡ none → r ≡ fault_at h 20 1
-        → ReadAs text (tells newer text) before r before
-    read_other f g = read_fault g (omega arith) (tells_first ∙ ap (λ o. behind_head o (lines (drop end text))) f) refl
+    pub read_other : {before : List ℕ} {f : Fault} → header_of newer (take end text) ≡ none → f ≡ wrong_form 1
+        → ReadAs text (tells newer text) before (Err f) before
+    read_other e f = rw f (read_fault {f = wrong_form 1} (tells_first ∙ ap (λ o. behind_head o (lines (drop end text))) e) refl)
 
 pub first_within : (text : List ℕ) (end : ℕ) → end ≡ line_length (drop 0 text) → end ≤ length text
 first_within text end e = omega (arith, line_end text 0 (suc (length text)) (omega arith) (omega arith))

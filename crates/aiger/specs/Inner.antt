@@ -1,7 +1,11 @@
 -- What the private functions require and ensure, with a name for each fact. Nothing here has to be believed: no public promise mentions it.
-use Rattle.std.specs.Prelude.{ℕ, ◌+◌, ◌-◌, ◌*◌, ◌/◌, ◌^◌, ◌≤◌, ◌<◌, Bool, true, false, not, ◌||◌, ◌&&◌, List, [], ◌∷◌, ◌++◌, ◌⊎◌, ◌≡◌, eqb, ltb, length, take, drop}
+use Rattle.std.specs.Prelude.{ℕ, ◌+◌, ◌-◌, ◌*◌, ◌/◌, ◌^◌, ◌≤◌, ◌<◌, Bool, true, false, not, ◌||◌, ◌&&◌, List, [], ◌∷◌, ◌++◌, ◌⊎◌, ◌≡◌, eqb, ltb, length, take, drop, Option, Some, None, Result, Ok, Err}
 use Rattle.std.proofs.Math.Option.{none, some}
 use Rattle.base.specs.Refusals.{◌if◌, ◌else◌, most_clauses}
+use Rattle.base.specs.Numbers.{number_of}
+use Rattle.base.specs.declared.Fault.{Fault}
+use Rattle.base.specs.declared.Refusal.{Refusal}
+use Rattle.base.specs.declared.Refusal.TheVariants as refusal
 use Rattle.stores.specs.Lists.{Lists}
 use Rattle.stores.specs.Over.{over}
 use Rattle.text.specs.Lines.{lines, line_length}
@@ -11,17 +15,16 @@ use Rattle.system.specs.declared.Clause.{Clause}
 use Rattle.circuit.specs.Circuit.{Circuit, Latch, Gate, every, any, index}
 use Rattle.circuit.specs.Loops.{loop_free}
 use Rattle.circuit.specs.Refusals.{twice, wrong_start, right_starts}
-use Rattle.circuit.specs.Import.{Place, here, wire, nowhere, empty, marks, start_clauses, latch_clauses, gate_clauses, constraint_clauses, flat, import_refusal}
+use Rattle.circuit.specs.Import.{Place, imported, here, wire, nowhere, empty, marks, start_clauses, latch_clauses, gate_clauses, constraint_clauses, flat, import_refusal}
 use Rattle.aiger.specs.Numbers.{numbers}
 use Rattle.aiger.specs.Text.{fits, three, Part, broken, whole, with_row, part, firsts, vars, latches_of, gates_of, circuit_of, header_of}
 use Rattle.aiger.specs.Text.{latch_form, uses, singles_of, Told, malformed, told}
-use Rattle.aiger.specs.Promise.{Result, imported_as}
+use Rattle.aiger.specs.Promise as promise
+use Rattle.aiger.specs.Promise.{report_of, entered}
 use Rattle.aiger.specs.declared.Imported.{Imported}
 use Rattle.aiger.specs.declared.part.Form.{Form}
 use Rattle.aiger.specs.declared.part.Progress.{Progress}
 use Rattle.aiger.specs.declared.read.Header.{Header}
-use Rattle.aiger.specs.declared.read.Head.{Head}
-use Rattle.aiger.specs.declared.read.Head.TheVariants.{Right, Wrong}
 use Rattle.aiger.specs.declared.read.Reading.{Reading}
 use Rattle.aiger.specs.declared.again.Singles.{Singles}
 use Rattle.aiger.specs.declared.again.Watched.{Watched}
@@ -110,16 +113,17 @@ pub record Small (h : Header) : Type 0 where
   pub bads : h.bads < 2 ^ 32
   pub constraints : h.constraints < 2 ^ 32
 
-abbrev pub HeadOf : Bool → List ℕ → Head → Type 0
-HeadOf newer line (Right h) = (header_of newer line ≡ some h) × Small h
-HeadOf newer line Wrong = header_of newer line ≡ none
+abbrev pub HeadOf : Bool → List ℕ → Option Header → Type 0
+HeadOf newer line (Some h) = (header_of newer line ≡ some h) × Small h
+HeadOf newer line None = header_of newer line ≡ none
 
 abbrev pub begun : Form → ℕ → ℕ → ℕ → ℕ → Progress
 begun form count line at row =
     record { more = ltb 0 count; fault = false; left = count; line = line; at = at; row = row; form = form }
 
-abbrev pub fault_at : Header → ℕ → ℕ → Reading
-fault_at header number line = record { number = number; line = line; header = header; latches = 0; singles = 0 }
+-- a line that is missing or wrong
+abbrev pub wrong_form : ℕ → Fault
+wrong_form line = record { refusal = refusal.Form; line = line }
 
 -- numbers of the most rows
 abbrev pub most_rows : ℕ
@@ -160,10 +164,10 @@ pub record Kept (text : List ℕ) (what : Told) (before : List ℕ) (r : Reading
   pub content :
       after ≡ laid (3 * r.header.latches + 3 * r.header.inputs) gates (laid 0 latches (laid (3 * r.header.latches) inputs before))
 
-pub record ReadAs (text : List ℕ) (what : Told) (before : List ℕ) (r : Reading) (after : List ℕ) : Type 0 where
+pub record ReadAs (text : List ℕ) (what : Told) (before : List ℕ) (r : Result Reading Fault) (after : List ℕ) : Type 0 where
   pub same : length after ≡ length before
-  pub wrong : (r.number ≡ 0 → ⊥) → what ≡ malformed r.number r.line
-  pub right : r.number ≡ 0 → Kept text what before r after
+  pub wrong : (f : Fault) → r ≡ Err f → what ≡ malformed (number_of f.refusal) f.line
+  pub right : (q : Reading) → r ≡ Ok q → Kept text what before q after
 
 -- ---- variables
 -- so many rows of three
@@ -328,16 +332,32 @@ last_refusal h latches start step bad =
 
 -- the lists are entered, if each store has room
 pub record Enters (text : List ℕ) (s : Singles) (rows : List ℕ) (h : Header) (watched : Clause) (lent : Lists) (r : Imported) (after : Lists) : Type 0 where
-  pub number : (r.number ≡ 0) × (r.line ≡ 0)
   pub sizes : (r.n ≡ h.latches) × (r.w ≡ h.inputs + h.gates)
   pub start : Entered (start_list (take (3 * h.latches) rows)) lent.start r.start after.start
   pub step :
       EntersStep text s rows (take (3 * h.latches) rows) (drop (3 * (h.latches + h.inputs)) rows) lent.step r.step after.step
   pub bad : EntersBad text s rows h.latches (drop (3 * (h.latches + h.inputs)) rows) watched lent.bad r.bad after.bad
 
--- what was held is imported or refused
-abbrev pub Judges : List ℕ → Reading → List ℕ → Lists → Imported → Lists → Type 0
-Judges text r rows lent import after =
+-- the line of a refusal that a start value is not the reason of: the header's, or none
+abbrev pub header_line : Refusal → ℕ
+header_line refusal.TooFew = 1
+header_line refusal.Latches = 1
+header_line refusal.Wires = 1
+header_line refusal.Watched = 1
+header_line _ = 0
+
+pub record FaultOf (r : Refusal) (f : Fault) : Type 0 where
+  pub refusal : f.refusal ≡ r
+  pub line : f.line ≡ header_line r
+
+-- a circuit with this refusal, or 0, is entered or refused
+abbrev pub Judged : Lists → Circuit → ℕ → Result Imported Refusal → Lists → Type 0
+Judged lent c number (Ok i) after =
+    (number ≡ 0) × ◌≡◌ {A = promise.Result} (record { import = report_of (Ok i); after = after }) (entered (imported c) lent)
+Judged lent c number (Err r) after = (number ≡ number_of r) × (number_of r ≡ 28 → ⊥) × (after ≡ lent)
+
+-- what was held is judged
+abbrev pub Judges : List ℕ → Reading → List ℕ → Lists → Result Imported Refusal → Lists → Type 0
+Judges text r rows lent result after =
     (h : Held text r rows)
-    → ◌≡◌ {A = Result} (record { import = import; after = after })
-    (imported_as lent (circuit_in h) (import_refusal r.header.m (circuit_in h) (length lent.start) (length lent.step) (length lent.bad)))
+    → Judged lent (circuit_in h) (import_refusal r.header.m (circuit_in h) (length lent.start) (length lent.step) (length lent.bad)) result after

@@ -1,5 +1,5 @@
 // AIGER, ASCII, first edition and newer: a circuit is read from a text into three lent clause stores. It takes every text and every store. It answers n,
-// w and the counts of masks, with each list in front of its store and zeros behind it; or it refuses with a number and a line, and leaves the stores
+// w and the counts of masks, with each list in front of its store and zeros behind it; or it refuses, with a line, and leaves the stores
 // untouched. So nothing is written before the last refusal. The text is read by its form in read.rt, line by line in part.rt and numbers.rt; lines of
 // which there may be any number are read again in again.rt; variables are found in find.rt, clauses written in clauses.rt; here are the refusals in
 // their order. The first edition is the newer one with nothing further, so both readers are one function.
@@ -15,8 +15,11 @@ mod read;
 ghost use Rattle.std.specs.Prelude.{◌≡◌, ◌≤◌, length};
 ghost use Rattle.stores.specs.Lists.{lists};
 ghost use Rattle.aiger.specs.Text.{first_edition, newer_edition};
-ghost use Rattle.aiger.specs.Promise.{Imports, refused_at};
-ghost use Rattle.aiger.specs.Inner.{Small, too_few, header_refusal, Limits, Sized, Held, wrong_rows, short, last_refusal, Enters, Judges};
+ghost use Rattle.base.specs.Numbers.{code_of};
+ghost use Rattle.aiger.specs.Promise.{Imports, report_of};
+ghost use Rattle.aiger.specs.Inner.{Small, too_few, header_refusal, FaultOf, Limits, Sized, Held, wrong_rows, short, last_refusal, Enters, Judges};
+
+use base::{Fault, Refusal};
 
 use again::{Seen, Singles, right_starts, see};
 use clauses::{enter_bad, enter_start, enter_step, fixed_starts};
@@ -24,11 +27,9 @@ use find::{all_known, defined_twice, loop_free};
 use read::{Header, Reading, read};
 use system::Clause;
 
-// With the number 0, n, w and the counts of masks; with a refusal, its line or 0, and all else 0.
-#[derive(Clone, Copy)]
+// n, w and the counts of masks.
+#[derive(Clone, Copy, Debug, PartialEq, Eq)]
 pub struct Imported {
-    pub number: u32,
-    pub line: usize,
     pub n: u32,
     pub w: u32,
     pub start: usize,
@@ -39,19 +40,15 @@ pub struct Imported {
 // Numbers of the most rows: 32 latches and 64 inputs and gates.
 const ROWS: usize = 288;
 
-// A refusal and its line.
-fn refused_at(number: u32, line: usize) -> Imported
-    ensures { result ≡ refused_at number line }
+// A refusal that a start value is not the reason of: the header's, which is line 1, or no line's.
+fn fault_of(refusal: Refusal) -> Fault
+    ensures { FaultOf refusal result }
 {
-    Imported {
-        number,
-        line,
-        n: 0,
-        w: 0,
-        start: 0,
-        step: 0,
-        bad: 0,
-    }
+    let line = match refusal {
+        Refusal::TooFew | Refusal::Latches | Refusal::Wires | Refusal::Watched => 1,
+        _ => 0,
+    };
+    Fault { refusal, line }
 }
 
 // Refusal 21.
@@ -63,20 +60,17 @@ fn too_few(h: Header) -> bool
 }
 
 // Refusals 22 and 23.
-fn header_refusal(h: Header) -> u32
+fn header_refusal(h: Header) -> Result<(), Refusal>
     requires { Small h }
-    ensures { result ≡ header_refusal h }
+    ensures { code_of result ≡ header_refusal h }
 {
-    if h.latches == 0 {
-        return 22;
-    }
-    if 32 < h.latches {
-        return 22;
+    if h.latches == 0 || 32 < h.latches {
+        return Err(Refusal::Latches);
     }
     if 64 < h.inputs + h.gates {
-        return 23;
+        return Err(Refusal::Wires);
     }
-    0
+    Ok(())
 }
 
 // Refusal 32: a store is shorter than its list, of which that of start has so many masks.
@@ -90,20 +84,26 @@ fn too_short(h: Header, first: usize, start: usize, step: usize, bad: usize) -> 
 }
 
 // Refusals from 26 on: 26, 32, and of the system's own the only one that can come, a list that is too long.
-fn last_refusal(h: Header, latches: &[u64], start: usize, step: usize, bad: usize) -> u32
+fn last_refusal(
+    h: Header,
+    latches: &[u64],
+    start: usize,
+    step: usize,
+    bad: usize,
+) -> Result<(), Refusal>
     requires { Small h × Limits h × (length latches.now ≤ 96) }
-    ensures { result ≡ last_refusal h latches.now start step bad }
+    ensures { code_of result ≡ last_refusal h latches.now start step bad }
 {
     if h.outputs == 0 && h.bads == 0 {
-        return 26;
+        return Err(Refusal::Watched);
     }
     if too_short(h, 4 * fixed_starts(latches), start, step, bad) {
-        return 32;
+        return Err(Refusal::ClauseStore);
     }
     if 4096 < 2 * h.latches + (3 * h.gates + h.constraints) {
-        return 2;
+        return Err(Refusal::Masks);
     }
-    0
+    Ok(())
 }
 
 // The lists, each in front of its store and zeros behind it.
@@ -127,8 +127,6 @@ fn enter(
     let t = enter_step(text, c, rows, latches, gates, step);
     let b = enter_bad(text, c, rows, h.latches as usize, gates, watched, bad);
     Imported {
-        number: 0,
-        line: 0,
         n: h.latches as u32,
         w: (h.inputs + h.gates) as u32,
         start: i,
@@ -155,14 +153,14 @@ fn judge(
     start: &mut [u64],
     step: &mut [u64],
     bad: &mut [u64],
-) -> Imported
+) -> Result<Imported, Refusal>
     requires { Held text.now r rows.now }
     ensures { Judges text.now r rows.now (lists start.old step.old bad.old)
         result (lists start.new step.new bad.new) }
 {
     let h = r.header;
     if wrong_rows(rows, h) {
-        return refused_at(24, 0);
+        return Err(Refusal::Variables);
     }
     let Seen {
         known,
@@ -170,17 +168,14 @@ fn judge(
         constraints,
     } = see(text, h, r.singles, rows, h.latches as usize);
     if !known {
-        return refused_at(24, 0);
+        return Err(Refusal::Variables);
     }
     if !loop_free(&rows[3 * (h.latches + h.inputs) as usize..]) {
-        return refused_at(25, 0);
+        return Err(Refusal::Loop);
     }
     let latches = &rows[..3 * h.latches as usize];
-    let number = last_refusal(h, latches, start.len(), step.len(), bad.len());
-    if number != 0 {
-        return refused_at(number, if number == 26 { 1 } else { 0 });
-    }
-    enter(text, constraints, rows, h, watched, start, step, bad)
+    last_refusal(h, latches, start.len(), step.len(), bad.len())?;
+    Ok(enter(text, constraints, rows, h, watched, start, step, bad))
 }
 
 // A circuit of this edition or of the first.
@@ -190,44 +185,52 @@ fn import_as(
     start: &mut [u64],
     step: &mut [u64],
     bad: &mut [u64],
-) -> Imported
+) -> Result<Imported, Fault>
     ensures { Imports newer text.now (lists start.old step.old bad.old)
-        result (lists start.new step.new bad.new) }
+        (report_of result) (lists start.new step.new bad.new) }
 {
     let mut rows = [0u64; ROWS];
-    let r = read(newer, text, &mut rows);
-    if r.number != 0 {
-        return refused_at(r.number, r.line);
-    }
+    let r = read(newer, text, &mut rows)?;
     let h = r.header;
     if too_few(h) {
-        return refused_at(21, 1);
+        return Err(fault_of(Refusal::TooFew));
     }
     let right = right_starts(text, r.latches, h.latches);
     if right < h.latches {
-        return refused_at(28, (2 + h.inputs + right) as usize);
+        let line = (2 + h.inputs + right) as usize;
+        return Err(Fault {
+            refusal: Refusal::StartValue,
+            line,
+        });
     }
-    let number = header_refusal(h);
-    if number != 0 {
-        return refused_at(number, 1);
-    }
+    header_refusal(h).map_err(fault_of)?;
     let count = 3 * (h.latches + h.inputs + h.gates) as usize;
-    judge(text, r, &rows[..count], start, step, bad)
+    judge(text, r, &rows[..count], start, step, bad).map_err(fault_of)
 }
 
 // A circuit of the first edition: its n, w and lists, or the first refusal and its line. After a refusal the stores are untouched; else all behind each
 // list is zero.
-pub fn import(text: &[u8], start: &mut [u64], step: &mut [u64], bad: &mut [u64]) -> Imported
+pub fn import(
+    text: &[u8],
+    start: &mut [u64],
+    step: &mut [u64],
+    bad: &mut [u64],
+) -> Result<Imported, Fault>
     ensures { Imports first_edition text.now (lists start.old step.old bad.old)
-        result (lists start.new step.new bad.new) }
+        (report_of result) (lists start.new step.new bad.new) }
 {
     import_as(false, text, start, step, bad)
 }
 
 // The same of the newer edition; what the first takes it reads alike.
-pub fn import_newer(text: &[u8], start: &mut [u64], step: &mut [u64], bad: &mut [u64]) -> Imported
+pub fn import_newer(
+    text: &[u8],
+    start: &mut [u64],
+    step: &mut [u64],
+    bad: &mut [u64],
+) -> Result<Imported, Fault>
     ensures { Imports newer_edition text.now (lists start.old step.old bad.old)
-        result (lists start.new step.new bad.new) }
+        (report_of result) (lists start.new step.new bad.new) }
 {
     import_as(true, text, start, step, bad)
 }

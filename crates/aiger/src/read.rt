@@ -4,7 +4,9 @@
 ghost use Rattle.std.specs.Prelude.{◌≡◌, ◌≤◌, length, drop};
 ghost use Rattle.text.specs.Lines.{lines};
 ghost use Rattle.aiger.specs.Text.{most_counts, parts_of, behind_header, tells};
-ghost use Rattle.aiger.specs.Inner.{HeadOf, begun, fault_at, Small, most_rows, ReadAs};
+ghost use Rattle.aiger.specs.Inner.{HeadOf, begun, wrong_form, Small, most_rows, ReadAs};
+
+use base::{Fault, Refusal};
 
 use super::numbers::numbers;
 use super::part::{Form, Progress, take_part};
@@ -24,18 +26,9 @@ pub(super) struct Header {
     pub(super) fairness: u64,
 }
 
-// What the first line says.
-#[derive(Clone, Copy)]
-enum Head {
-    Right(Header),
-    Wrong,
-}
-
-// A refusal for the form and its line, or 0; then the counts, and where the latches and the lines of one literal begin.
+// The counts, and where the latches and the lines of one literal begin.
 #[derive(Clone, Copy)]
 pub(super) struct Reading {
-    pub(super) number: u32,
-    pub(super) line: usize,
     pub(super) header: Header,
     pub(super) latches: usize,
     pub(super) singles: usize,
@@ -49,21 +42,21 @@ fn most_counts(newer: bool) -> usize
 }
 
 // The first line.
-fn head_of(newer: bool, line: &[u8]) -> Head
+fn head_of(newer: bool, line: &[u8]) -> Option<Header>
     ensures { HeadOf newer line.now result }
 {
     if line.len() < 4 {
-        return Head::Wrong;
+        return None;
     }
     if line[0] != 97 || line[1] != 97 || line[2] != 103 || line[3] != 32 {
-        return Head::Wrong;
+        return None;
     }
     let mut counts = [0u64; 9];
     let count = numbers(&line[4..], &mut counts);
     if count < 5 || most_counts(newer) < count {
-        return Head::Wrong;
+        return None;
     }
-    Head::Right(Header {
+    Some(Header {
         newer,
         m: counts[0],
         inputs: counts[1],
@@ -92,21 +85,18 @@ fn begin(form: Form, count: u64, line: usize, at: usize, row: usize) -> Progress
     }
 }
 
-// What is wrong with the form: 20 or 27.
-fn faulty(header: Header, number: u32, line: usize) -> Reading
-    ensures { result ≡ fault_at header number line }
+// A line that is missing or wrong.
+fn wrong_form(line: usize) -> Fault
+    ensures { result ≡ wrong_form line }
 {
-    Reading {
-        number,
+    Fault {
+        refusal: Refusal::Form,
         line,
-        header,
-        latches: 0,
-        singles: 0,
     }
 }
 
 // The parts behind the header, which ends at this index.
-fn read_parts(text: &[u8], at: usize, h: Header, rows: &mut [u64]) -> Reading
+fn read_parts(text: &[u8], at: usize, h: Header, rows: &mut [u64]) -> Result<Reading, Fault>
     requires { Small h × (at ≤ length text.now) × (length rows.old ≤ most_rows) }
     ensures { ReadAs text.now (parts_of h (lines (drop at text.now))) rows.old result rows.new }
 {
@@ -120,7 +110,7 @@ fn read_parts(text: &[u8], at: usize, h: Header, rows: &mut [u64]) -> Reading
     };
     let s = take_part(text, begin(form, h.inputs, 2, at, latches), rows);
     if s.fault {
-        return faulty(h, 20, s.line);
+        return Err(wrong_form(s.line));
     }
     let latches_at = s.at;
     let form = Form {
@@ -131,7 +121,7 @@ fn read_parts(text: &[u8], at: usize, h: Header, rows: &mut [u64]) -> Reading
     };
     let s = take_part(text, begin(form, h.latches, s.line, s.at, 0), rows);
     if s.fault {
-        return faulty(h, 20, s.line);
+        return Err(wrong_form(s.line));
     }
     let singles_at = s.at;
     let singles = h.outputs + h.bads + h.constraints;
@@ -144,7 +134,7 @@ fn read_parts(text: &[u8], at: usize, h: Header, rows: &mut [u64]) -> Reading
     let none = rows.len();
     let s = take_part(text, begin(form, singles, s.line, s.at, none), rows);
     if s.fault {
-        return faulty(h, 20, s.line);
+        return Err(wrong_form(s.line));
     }
     let form = Form {
         width: 3,
@@ -158,51 +148,37 @@ fn read_parts(text: &[u8], at: usize, h: Header, rows: &mut [u64]) -> Reading
         rows,
     );
     if s.fault {
-        return faulty(h, 20, s.line);
+        return Err(wrong_form(s.line));
     }
-    Reading {
-        number: 0,
-        line: 0,
+    Ok(Reading {
         header: h,
         latches: latches_at,
         singles: singles_at,
-    }
+    })
 }
 
 // The lines behind a header that asks for nothing but safety.
-fn read_behind(text: &[u8], at: usize, h: Header, rows: &mut [u64]) -> Reading
+fn read_behind(text: &[u8], at: usize, h: Header, rows: &mut [u64]) -> Result<Reading, Fault>
     requires { Small h × (at ≤ length text.now) × (length rows.old ≤ most_rows) }
     ensures { ReadAs text.now (behind_header h (lines (drop at text.now))) rows.old result rows.new }
 {
     if h.justice != 0 || h.fairness != 0 {
-        return faulty(h, 27, 1);
+        return Err(Fault {
+            refusal: Refusal::Justice,
+            line: 1,
+        });
     }
     read_parts(text, at, h, rows)
 }
 
 // The text: its first line at fault, or what it says.
-pub(super) fn read(newer: bool, text: &[u8], rows: &mut [u64]) -> Reading
+pub(super) fn read(newer: bool, text: &[u8], rows: &mut [u64]) -> Result<Reading, Fault>
     requires { length rows.old ≤ most_rows }
     ensures { ReadAs text.now (tells newer text.now) rows.old result rows.new }
 {
     let end = text::line_length(text, 0);
-    match head_of(newer, &text[..end]) {
-        Head::Right(h) => read_behind(text, end, h, rows),
-        Head::Wrong => faulty(
-            Header {
-                newer,
-                m: 0,
-                inputs: 0,
-                latches: 0,
-                outputs: 0,
-                gates: 0,
-                bads: 0,
-                constraints: 0,
-                justice: 0,
-                fairness: 0,
-            },
-            20,
-            1,
-        ),
-    }
+    let Some(h) = head_of(newer, &text[..end]) else {
+        return Err(wrong_form(1));
+    };
+    read_behind(text, end, h, rows)
 }

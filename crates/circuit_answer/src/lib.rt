@@ -17,20 +17,15 @@ pub fn answer(text: &[u8], out: &mut [u8]) -> usize
     let mut start = [0u64; START];
     let mut step = [0u64; STEP];
     let mut bad = [0u64; BAD];
-    let circuit = aiger::import_newer(text, &mut start, &mut step, &mut bad);
-    let number = circuit.number;
-    if number != 0 {
-        return answer::put_refusal(out, number, circuit.line);
+    match aiger::import_newer(text, &mut start, &mut step, &mut bad) {
+        Ok(circuit) => answer::solve(
+            circuit.n,
+            circuit.w,
+            &start[..circuit.start],
+            &step[..circuit.step],
+            &bad[..circuit.bad],
+            out,
+        ),
+        Err(fault) => answer::put_refusal(out, fault.refusal.into(), fault.line),
     }
-    let i = circuit.start;
-    let t = circuit.step;
-    let b = circuit.bad;
-    answer::solve(
-        circuit.n,
-        circuit.w,
-        &start[..i],
-        &step[..t],
-        &bad[..b],
-        out,
-    )
 }

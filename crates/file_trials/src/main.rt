@@ -142,14 +142,26 @@ fn write_sums(store: &[u64]) {
     write_next(s.q);
 }
 
-fn write_imported(r: aiger::Imported) {
-    io::print_decimal(1, r.number as u64);
-    write_next(r.line as u64);
-    write_next(r.n as u64);
-    write_next(r.w as u64);
-    write_next(r.start as u64);
-    write_next(r.step as u64);
-    write_next(r.bad as u64);
+// What is answered: with a refusal, its number and its line, and 0 for all else.
+fn write_imported(r: Result<aiger::Imported, base::Fault>) {
+    let none = aiger::Imported {
+        n: 0,
+        w: 0,
+        start: 0,
+        step: 0,
+        bad: 0,
+    };
+    let (number, line, i): (u32, usize, aiger::Imported) = match r {
+        Ok(i) => (0, 0, i),
+        Err(fault) => (fault.refusal.into(), fault.line, none),
+    };
+    io::print_decimal(1, number as u64);
+    write_next(line as u64);
+    write_next(i.n as u64);
+    write_next(i.w as u64);
+    write_next(i.start as u64);
+    write_next(i.step as u64);
+    write_next(i.bad as u64);
 }
 
 fn least(a: usize, b: usize) -> usize
@@ -173,7 +185,7 @@ fn import_fronts(
     step: &mut [u64],
     bad: &mut [u64],
     lent: Lent,
-) -> aiger::Imported {
+) -> Result<aiger::Imported, base::Fault> {
     let a = least(lent.start, start.len());
     let b = least(lent.step, step.len());
     let c = least(lent.bad, bad.len());

@@ -29,7 +29,7 @@ singles_read c = part_read (rw c.begin-3.ensures at c.take_part-s-3.ensures) c.i
 
 -- ---- the goals
 pub returns-then-s : goal.returns-then-s
-returns-then-s c = fault_inputs _ _ _ _ (rw c.begin.ensures at c.take_part-s.ensures) c.if-s.true c.faulty.ensures
+returns-then-s c = fault_inputs _ _ _ _ (rw c.begin.ensures at c.take_part-s.ensures) c.if-s.true c.wrong_form.ensures
 
 pub take_part-s-requires-2 : goal.take_part-s-requires-2
 take_part-s-requires-2 c =
@@ -42,7 +42,7 @@ take_part-s-requires-2 c =
 pub returns-then-s-2 : goal.returns-then-s-2
 returns-then-s-2 c =
     let inputs = inputs_read (goal.at.returns-then-s-2 c).Else-s in
-    fault_latches _ _ _ _ inputs (rw c.begin-2.ensures at c.take_part-s-2.ensures) c.if-s-2.true c.faulty-then-s-2.ensures
+    fault_latches _ _ _ _ inputs (rw c.begin-2.ensures at c.take_part-s-2.ensures) c.if-s-2.true c.wrong_form-then-s-2.ensures
 
 pub take_part-s-requires-3 : goal.take_part-s-requires-3
 take_part-s-requires-3 c =
@@ -57,7 +57,7 @@ pub returns-then-s-3 : goal.returns-then-s-3
 returns-then-s-3 c =
     let inputs = inputs_read (goal.at.returns-then-s-3 c).Else-s in
     let latches = latches_read (goal.at.returns-then-s-3 c).Else-s-2 in
-    fault_singles _ _ _ _ inputs latches (rw c.begin-3.ensures at c.take_part-s-3.ensures) c.if-s-3.true c.faulty-then-s-3.ensures
+    fault_singles _ _ _ _ inputs latches (rw c.begin-3.ensures at c.take_part-s-3.ensures) c.if-s-3.true c.wrong_form-then-s-3.ensures
 
 pub take_part-s-requires-4 : goal.take_part-s-requires-4
 take_part-s-requires-4 c =
@@ -75,7 +75,7 @@ returns-then-s-4 c =
     let inputs = inputs_read (goal.at.returns-then-s-4 c).Else-s in
     let latches = latches_read (goal.at.returns-then-s-4 c).Else-s-2 in
     let singles = singles_read (goal.at.returns-then-s-4 c).Else-s-3 in
-    fault_gates _ _ _ _ inputs latches singles (rw c.begin-4.ensures at c.take_part-s-4.ensures) c.if-s-4.true c.faulty-then-s-4.ensures
+    fault_gates _ _ _ _ inputs latches singles (rw c.begin-4.ensures at c.take_part-s-4.ensures) c.if-s-4.true c.wrong_form-then-s-4.ensures
 
 pub returns : goal.returns
 returns c =
