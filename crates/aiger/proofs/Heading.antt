@@ -1,11 +1,11 @@
 -- The refusals that come before the rows are judged: 21, a wrong start value, and what is read off the header. The rows are counted, so the circuit's
 -- counts are the header's, and the latches before the first wrong start value are fewer than all exactly if there is one. Assumes nothing.
-use Prim.Native.Nat.{ℕ, zero, suc, ◌+◌, ◌≤◌, ◌<◌}
+use Prim.Native.Nat.{ℕ, zero, suc, ◌+◌, ◌≤◌}
 use mathlib.Core.Bool.{Bool, true, false, ◌||◌}
-use mathlib.Core.List.{List, [], ◌∷◌}
+use mathlib.Core.List.{List}
 use mathlib.Core.Path.{◌≡◌, refl, sym, ap, ◌∙◌}
 use native.Mathlib.Omega.{arith}
-use borrow.Author.Tests.{ltb-true, ltb-false, lt-ltb, le-ltb}
+use borrow.Author.Tests.{ltb-false}
 use lib.Dec.{eqb, ltb}
 use lib.ListN.{length}
 use mathlib.Core.Logic.{⊎_elim}
@@ -16,11 +16,10 @@ use Rattle.base.specs.Refusals.{◌if◌, ◌else◌}
 use Rattle.base.specs.declared.Fault.{Fault}
 use Rattle.base.specs.declared.Refusal.{Refusal}
 use Rattle.base.specs.declared.Refusal.TheVariants.{Size, Masks, Bits, Stores, Evidence, Digits, Sum, Kind, Length, Room, Count, Form, TooFew, Latches, Wires, Variables, Loop, Watched, Justice, StartValue, Given, Store, ClauseStore}
-use Rattle.base.proofs.Tests.{test}
 use Rattle.base.proofs.Refusals.{else_none, if_none, number_not_none}
 use Rattle.masks.proofs.Somewhere.{or_fails}
 use Rattle.stores.specs.Lists.{Lists}
-use Rattle.circuit.specs.Circuit.{Circuit, Latch, any}
+use Rattle.circuit.specs.Circuit.{Circuit, any}
 use Rattle.circuit.specs.Refusals.{wrong_start, right_starts, circuit_refusal}
 use Rattle.circuit.specs.Import.{import_refusal}
 use Rattle.aiger.specs.Text.{firsts, latches_of, circuit_of}
@@ -54,22 +53,6 @@ header_other h e = pick (eqb h.latches 0 || ltb 32 h.latches) (ltb 64 (h.inputs 
     pick false true f = omega arith
     pick false false f = omega arith
 
--- ---- start values
--- the first that is wrong stands before the last latch
-pub right_few : (ls : List Latch) → any wrong_start ls ≡ ltb (right_starts ls) (length ls)
-unfolding any right_starts
-right_few [] = refl
-right_few (l ∷ ls) =
-    test (wrong_start l)
-    (λ e. rw (e, right_starts) (sym (lt-ltb 0 (suc (length ls)) (omega arith))))
-    (λ e. rw (e, right_starts) (right_few ls ∙ more (right_starts ls) (length ls)))
-  where
-    more : (a b : ℕ) → ltb a b ≡ ltb (suc a) (suc b)
-    more a b =
-        test (ltb a b)
-        (λ e. e ∙ sym (lt-ltb (suc a) (suc b) (omega (arith, ltb-true a b e))))
-        (λ e. e ∙ sym (le-ltb (suc a) (suc b) (omega (arith, ltb-false a b e))))
-
 -- ---- the counts are the header's
 module _ {text : List ℕ} {r : Reading} {inputs latches singles gates : List ℕ} (k : Counted text r inputs latches singles gates) where
   abbrev c : Circuit
@@ -90,12 +73,6 @@ module _ {text : List ℕ} {r : Reading} {inputs latches singles gates : List �
   pub counted_singles : length (firsts singles) ≡ r.header.outputs + r.header.bads + r.header.constraints
   counted_singles = length_threes _ singles ∙ omega (arith, k.many_singles)
 
-  -- every start value is right
-  pub counted_right : (right : ℕ) → right ≡ right_starts (latches_of latches) → r.header.latches ≤ right → any wrong_start (latches_of latches) ≡ false
-  counted_right right e l =
-      right_few (latches_of latches)
-      ∙ le-ltb (right_starts (latches_of latches)) (length (latches_of latches)) (omega (arith, latches_many latches, k.many_latches))
-
   -- the first refusals, each where those before it are not given: the number, and its line
   module _ (a b d : ℕ) where
     abbrev refusal : ℕ
@@ -106,16 +83,13 @@ module _ {text : List ℕ} {r : Reading} {inputs latches singles gates : List �
     number_21 e = (rw (counted_inputs, counted_latches, counted_gates) (rw e), refl)
 
     module _ (enough : too_few r.header ≡ false) where
-      pub number_28 : (right : ℕ) → right ≡ right_starts (latches_of latches) → right < r.header.latches
+      pub number_28 : (right : ℕ) → any wrong_start (latches_of latches) ≡ true → right ≡ right_starts (latches_of latches)
           → (refusal ≡ 28) × (line_for c 28 ≡ 2 + r.header.inputs + right)
       unfolding import_refusal circuit_refusal too_few line_for circuit_of
-      number_28 right e l =
-          let wrong : any wrong_start (latches_of latches) ≡ true =
-          right_few (latches_of latches)
-          ∙ lt-ltb (right_starts (latches_of latches)) (length (latches_of latches)) (omega (arith, latches_many latches, k.many_latches)) in (
-            rw (counted_inputs, counted_latches, counted_gates) (rw (enough, wrong)),
-            ap (λ (n : ℕ). 2 + n + right_starts (latches_of latches)) counted_inputs ∙ rw e,
-          )
+      number_28 right wrong e = (
+        rw (counted_inputs, counted_latches, counted_gates) (rw (enough, wrong)),
+        ap (λ (n : ℕ). 2 + n + right_starts (latches_of latches)) counted_inputs ∙ rw e,
+      )
 
       pub header_number : any wrong_start (latches_of latches) ≡ false → (header_refusal r.header ≡ 0 → ⊥)
           → (refusal ≡ header_refusal r.header) × (line_for c (header_refusal r.header) ≡ 1)

@@ -3,9 +3,7 @@
 use Prim.Native.Nat.{ℕ, zero, suc, ◌+◌, ◌-◌, ◌*◌, ◌≤◌}
 use mathlib.Core.Bool.{Bool, true, false, not, ◌&&◌, ◌||◌}
 use mathlib.Core.List.{List, ◌++◌, map, append_assoc}
-use mathlib.Core.Logic.{◌⊎◌, inl, inr, ⊎_elim}
 use mathlib.Core.Path.{◌≡◌, refl, sym, ap, ap₂, ◌∙◌}
-use native.Mathlib.Nat.{eq-zero-or-pos}
 use native.Mathlib.Omega.{arith}
 use borrow.Author.Tests.{ltb-false}
 use lib.Dec.{eqb, ltb}
@@ -14,7 +12,6 @@ use lib.Seq.{length-take-le, take_at, drop_at, drop-drop}
 use Rattle.base.specs.Refusals.{◌if◌, ◌else◌, most_clauses}
 use Rattle.base.proofs.Refusals.{else_none, if_none}
 use Rattle.masks.proofs.Somewhere.{or_fails}
-use Rattle.stores.specs.Lists.{Lists}
 use Rattle.ic3.specs.Demands.{listed, Distinct}
 use Rattle.circuit.specs.Circuit.{Latch, Gate, latch_vars, outs, every}
 use Rattle.circuit.specs.Loops.{loop_free}

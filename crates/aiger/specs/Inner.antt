@@ -1,5 +1,5 @@
 -- What the private functions require and ensure, with a name for each fact. Nothing here has to be believed: no public promise mentions it.
-use Rattle.std.specs.Prelude.{ℕ, ◌+◌, ◌-◌, ◌*◌, ◌/◌, ◌^◌, ◌≤◌, ◌<◌, Bool, true, false, not, ◌||◌, ◌&&◌, List, [], ◌∷◌, ◌++◌, ◌⊎◌, ◌≡◌, eqb, ltb, length, take, drop, Option, Some, None, Result, Ok, Err}
+use Rattle.std.specs.Prelude.{ℕ, ◌+◌, ◌-◌, ◌*◌, ◌/◌, ◌^◌, ◌≤◌, ◌<◌, Bool, true, false, not, ◌||◌, ◌&&◌, List, [], ◌∷◌, ◌++◌, ◌≡◌, eqb, ltb, length, take, drop, replicate, Option, Some, None, Result, Ok, Err}
 use Rattle.std.proofs.Math.Option.{none, some}
 use Rattle.base.specs.Refusals.{◌if◌, ◌else◌, most_clauses}
 use Rattle.base.specs.Numbers.{number_of}
@@ -17,13 +17,17 @@ use Rattle.circuit.specs.Loops.{loop_free}
 use Rattle.circuit.specs.Refusals.{twice, wrong_start, right_starts}
 use Rattle.circuit.specs.Import.{Place, imported, here, wire, nowhere, empty, marks, start_clauses, latch_clauses, gate_clauses, constraint_clauses, flat, import_refusal}
 use Rattle.aiger.specs.Numbers.{numbers}
-use Rattle.aiger.specs.Text.{fits, three, Part, broken, whole, with_row, part, firsts, vars, latches_of, gates_of, circuit_of, header_of}
+use Rattle.aiger.specs.Text.{three, row_of, Part, broken, whole, part, firsts, vars, latches_of, gates_of, circuit_of, header_of}
 use Rattle.aiger.specs.Text.{latch_form, uses, singles_of, Told, malformed, told}
 use Rattle.aiger.specs.Promise as promise
 use Rattle.aiger.specs.Promise.{report_of, entered}
 use Rattle.aiger.specs.declared.Imported.{Imported}
 use Rattle.aiger.specs.declared.part.Form.{Form}
-use Rattle.aiger.specs.declared.part.Progress.{Progress}
+use Rattle.aiger.specs.declared.part.Row.{Row}
+use Rattle.aiger.specs.declared.part.Line.{Line}
+use Rattle.aiger.specs.declared.part.Lines.{Lines}
+use Rattle.aiger.specs.declared.read.Edition.{Edition}
+use Rattle.aiger.specs.declared.read.Edition.TheVariants.{First, Newer}
 use Rattle.aiger.specs.declared.read.Header.{Header}
 use Rattle.aiger.specs.declared.read.Reading.{Reading}
 use Rattle.aiger.specs.declared.again.Singles.{Singles}
@@ -39,71 +43,67 @@ pub record Found (line before : List ℕ) (r : ℕ) (after : List ℕ) : Type 0 
   pub fits : r ≤ length before
   pub content : after ≡ laid 0 xs before
 
-pub record Numbered (line before : List ℕ) (r : ℕ) (after : List ℕ) : Type 0 where
+pub record Numbered (line before : List ℕ) (r : Option ℕ) (after : List ℕ) : Type 0 where
   pub same : length after ≡ length before
-  pub found : 1 ≤ r → Found line before r after
-  pub lacks : r ≡ 0 → (xs : List ℕ) → numbers line ≡ some xs → length before < length xs
+  pub found : (count : ℕ) → r ≡ Some count → Found line before count after
+  pub lacks : r ≡ None → (xs : List ℕ) → numbers line ≡ some xs → length before < length xs
 
--- ---- parts
+-- ---- lines
+abbrev pub row_list : Row → List ℕ
+row_list row = row.literal ∷ (row.second ∷ (row.third ∷ []))
+
+-- the line that begins at this index
+pub record ReadsLine (text : List ℕ) (at : ℕ) (line : Line) : Type 0 where
+  pub within : line.end ≤ length text
+  pub ends : line.end ≡ at + line_length (drop at text)
+  pub found : List ℕ
+  pub row : row_list line.row ≡ three found
+  pub numbered : Numbered (take (line.end - at) (drop at text)) (replicate 3 0) line.count found
+
+-- a line has one to three literals, and a start value only where it has fewer
+pub record Fine (form : Form) : Type 0 where
+  pub some_number : 1 ≤ form.width
+  pub width : form.width ≤ 3
+  pub start : form.starts ≡ true → form.width ≤ 2
+
 unfoldable pub count_fits : Form → ℕ → Bool
 count_fits f count = eqb count f.width || (f.starts && eqb count (f.width + 1))
 
--- whether so many numbers are of the form, told of any list that has them
-pub record RowFits (form : Form) (count a b c : ℕ) (r : Bool) : Type 0 where
-  pub some_number : r ≡ true → 1 ≤ count
-  pub fits : (xs : List ℕ) → length xs ≡ count → count ≤ 3 → three xs ≡ a ∷ (b ∷ (c ∷ [])) → r ≡ fits form xs
+-- a line that was read has a row of the form, or none
+pub record TakesLine (form : Form) (line : Line) (r : Bool) : Type 0 where
+  pub right : r ≡ true → (bytes found : List ℕ) → row_list line.row ≡ three found → Numbered bytes (replicate 3 0) line.count found
+      → row_of form bytes ≡ some (row_list line.row)
+  pub wrong : r ≡ false → (bytes found : List ℕ) → row_list line.row ≡ three found → Numbered bytes (replicate 3 0) line.count found
+      → row_of form bytes ≡ none
 
--- what is left of a part
-unfoldable pub rest : List ℕ → Progress → Part
-rest text s = elim s.fault [ true ↦ broken s.line | false ↦ part s.form s.left s.line (lines (drop s.at text)) ]
+-- ---- parts
+-- no sum is too large
+pub record Begins (text : List ℕ) (from : ℕ) (l : Lines) : Type 0 where
+  pub fine : Fine l.form
+  pub within : from ≤ length text
+  pub rows : l.row + 3 * l.count < 2 ^ 62
+  pub lines : l.first + l.count < 2 ^ 62
 
--- no sum is too large, and a line has one to three numbers
-pub record Bounded (s : Progress) : Type 0 where
-  pub row : s.row + 3 * s.left < 2 ^ 62
-  pub lines : s.line + s.left < 2 ^ 62
-  pub line : 1 ≤ s.line
-  pub some_number : 1 ≤ s.form.width
-  pub width : s.form.width ≤ 3
-  pub start : s.form.starts ≡ true → s.form.width ≤ 2
+abbrev pub part_from : List ℕ → Lines → ℕ → Part
+part_from text l from = part l.form l.count l.first (lines (drop from text))
 
--- a turn can begin at a reader's place, or the part has ended
-pub record Stands (text : List ℕ) (at : ℕ) (s : Progress) : Type 0 where
-  pub reader : at ≤ length text
-  pub within : s.at ≤ length text
-  pub bounded : Bounded s
-  pub place : s.more ≡ true → s.at ≡ at
-  pub left : s.more ≡ true → 1 ≤ s.left
-  pub fine : s.more ≡ true → s.fault ≡ false
-  pub done : s.more ≡ false → (s.fault ≡ true) ⊎ (s.left ≡ 0)
-
-abbrev pub Begins : List ℕ → Progress → Type 0
-Begins text s = Stands text s.at s
-
-pub record GoesOn (text : List ℕ) (at end : ℕ) (s : Progress) : Type 0 where
-  pub stands : Stands text at s
-  pub more : s.more ≡ true
-  pub ends : end ≡ at + line_length (drop at text)
-
--- from one place of a part to another: rows were read, and written as far as the store reaches
-pub record Onward (text : List ℕ) (s : Progress) (before : List ℕ) (q : Progress) (after : List ℕ) : Type 0 where
+-- all were read: their rows, where they were written, and where the next part begins
+pub record Read (text : List ℕ) (l : Lines) (from : ℕ) (before : List ℕ) (end : ℕ) (after : List ℕ) : Type 0 where
   pub rows : List ℕ
-  pub says : rest text s ≡ with_row rows (rest text q)
-  pub content : after ≡ laid s.row rows before
-  pub next : q.row ≡ s.row + length rows
-  pub form : q.form ≡ s.form
+  pub says : part_from text l from ≡ whole rows (l.first + l.count) (lines (drop end text))
+  pub content : after ≡ laid l.row rows before
+  pub within : end ≤ length text
 
-pub record Turned (text : List ℕ) (end : ℕ) (s : Progress) (before : List ℕ) (q : Progress) (after : List ℕ) : Type 0 where
-  pub stands : Stands text end q
-  pub onward : Onward text s before q after
-  pub less : q.more ≡ true → q.left < s.left
-
-pub record Takes (text : List ℕ) (s : Progress) (before : List ℕ) (q : Progress) (after : List ℕ) : Type 0 where
-  pub done : (q.fault ≡ true) ⊎ (q.left ≡ 0)
-  pub within : q.at ≤ length text
-  pub bounded : Bounded q
-  pub onward : Onward text s before q after
+pub record Takes (text : List ℕ) (l : Lines) (from : ℕ) (before : List ℕ) (r : Result ℕ Fault) (after : List ℕ) : Type 0 where
+  pub same : length after ≡ length before
+  pub wrong : (f : Fault) → r ≡ Err f → (f.refusal ≡ refusal.Form) × (part_from text l from ≡ broken f.line)
+  pub right : (end : ℕ) → r ≡ Ok end → Read text l from before end after
 
 -- ---- the text
+abbrev pub newer_in : Edition → Bool
+newer_in First = false
+newer_in Newer = true
+
 pub record Small (h : Header) : Type 0 where
   pub m : h.m < 2 ^ 32
   pub inputs : h.inputs < 2 ^ 32
@@ -116,10 +116,6 @@ pub record Small (h : Header) : Type 0 where
 abbrev pub HeadOf : Bool → List ℕ → Option Header → Type 0
 HeadOf newer line (Some h) = (header_of newer line ≡ some h) × Small h
 HeadOf newer line None = header_of newer line ≡ none
-
-abbrev pub begun : Form → ℕ → ℕ → ℕ → ℕ → Progress
-begun form count line at row =
-    record { more = ltb 0 count; fault = false; left = count; line = line; at = at; row = row; form = form }
 
 -- a line that is missing or wrong
 abbrev pub wrong_form : ℕ → Fault
@@ -235,14 +231,20 @@ pub record Entered (list before : List ℕ) (r : ℕ) (after : List ℕ) : Type 
 
 -- ---- lines read again
 -- what is said of rows of latches, and of literals that stand alone, wherever they can be read
-abbrev pub RightStarts : List ℕ → ℕ → ℕ → ℕ → Type 0
-RightStarts text at count r =
-    (h : Header) (latches : List ℕ) → ReadAgain text (latch_form h) at count latches → r ≡ right_starts (latches_of latches)
+pub record RightStarts (text : List ℕ) (at count : ℕ) (r : Option ℕ) : Type 0 where
+  pub few : (k : ℕ) → r ≡ Some k → k < count
+  pub right : r ≡ None → (h : Header) (latches : List ℕ) → ReadAgain text (latch_form h) at count latches
+      → any wrong_start (latches_of latches) ≡ false
+  pub wrong : (k : ℕ) → r ≡ Some k → (h : Header) (latches : List ℕ) → ReadAgain text (latch_form h) at count latches
+      → (any wrong_start (latches_of latches) ≡ true) × (k ≡ right_starts (latches_of latches))
 
-pub record Watches (text : List ℕ) (s : Singles) (rows : List ℕ) (latches : ℕ) (q : Watched) : Type 0 where
-  pub within : q.at ≤ length text
-  pub says : (h : Header) (singles : List ℕ) (others : List (List ℕ)) → Again text (uses h) s.at s.count singles others
-      → (q.known ≡ every (known_in (vars rows)) (firsts singles))
+pub record Watches (text : List ℕ) (s : Singles) (rows : List ℕ) (latches : ℕ) (r : Option Watched) : Type 0 where
+  pub within : (q : Watched) → r ≡ Some q → q.at ≤ length text
+  pub unknown : r ≡ None → (h : Header) (singles : List ℕ) (others : List (List ℕ)) → Again text (uses h) s.at s.count singles others
+      → every (known_in (vars rows)) (firsts singles) ≡ false
+  pub says : (q : Watched) → r ≡ Some q → (h : Header) (singles : List ℕ) (others : List (List ℕ))
+      → Again text (uses h) s.at s.count singles others
+      → (every (known_in (vars rows)) (firsts singles) ≡ true)
       × (q.clause ≡ marks (place_by rows latches) empty (firsts singles))
       × (others ≡ lines (drop q.at text))
 
@@ -260,11 +262,12 @@ pub record Constraints (text : List ℕ) (s : Singles) (literals : List ℕ) : T
   pub again : ReadAgain text (uses header) s.at s.count rows
   pub literals_are : literals ≡ firsts rows
 
-pub record Sees (text : List ℕ) (h : Header) (at : ℕ) (rows : List ℕ) (latches : ℕ) (q : Seen) : Type 0 where
-  pub within : q.constraints.at ≤ length text
-  pub count : q.constraints.count ≡ h.constraints
-  pub says : (singles : List ℕ) → ReadAgain text (uses h) at (singles_of h) singles
-      → (q.known ≡ every (known_in (vars rows)) (firsts singles))
+pub record Sees (text : List ℕ) (h : Header) (at : ℕ) (rows : List ℕ) (latches : ℕ) (r : Option Seen) : Type 0 where
+  pub within : (q : Seen) → r ≡ Some q → (q.constraints.at ≤ length text) × (q.constraints.count ≡ h.constraints)
+  pub unknown : r ≡ None → (singles : List ℕ) → ReadAgain text (uses h) at (singles_of h) singles
+      → every (known_in (vars rows)) (firsts singles) ≡ false
+  pub says : (q : Seen) → r ≡ Some q → (singles : List ℕ) → ReadAgain text (uses h) at (singles_of h) singles
+      → (every (known_in (vars rows)) (firsts singles) ≡ true)
       × (q.watched ≡ marks (place_by rows latches) empty (watched_of h (firsts singles)))
       × Constraints text q.constraints (constraints_of h (firsts singles))
 

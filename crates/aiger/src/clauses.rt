@@ -9,8 +9,7 @@ ghost use Rattle.aiger.specs.Inner.{PutsConstraints, EntersStep, EntersBad};
 
 use super::again::Singles;
 use super::find::find;
-use super::numbers::numbers;
-use super::part::put;
+use super::part::{put, read_line};
 use masks::Mask;
 use system::Clause;
 
@@ -246,19 +245,15 @@ fn put_constraints(
     ensures { PutsConstraints text.now c (place_by rows.now latches) from store.old result store.new }
 {
     let mut at = c.at;
-    let mut left = c.count;
-    let mut end = from;
-    while 0 < left {
-        let len = text::line_length(text, at);
-        let mut row = [0u64; 3];
-        numbers(&text[at..at + len], &mut row);
-        let l = row[0];
+    let mut next = from;
+    for _ in 0..c.count {
+        let line = read_line(text, at);
+        let l = line.row.literal;
         let m = with_literal(rows, latches, no_literal(), l / 2, l % 2);
-        end = put_clause(store, end, m);
-        at += len;
-        left -= 1;
+        next = put_clause(store, next, m);
+        at = line.end;
     }
-    end
+    next
 }
 
 // The list of start in front of its store, and zeros behind it; how many masks it has.

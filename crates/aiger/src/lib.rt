@@ -17,14 +17,14 @@ ghost use Rattle.stores.specs.Lists.{lists};
 ghost use Rattle.aiger.specs.Text.{first_edition, newer_edition};
 ghost use Rattle.base.specs.Numbers.{code_of};
 ghost use Rattle.aiger.specs.Promise.{Imports, report_of};
-ghost use Rattle.aiger.specs.Inner.{Small, too_few, header_refusal, FaultOf, Limits, Sized, Held, wrong_rows, short, last_refusal, Enters, Judges};
+ghost use Rattle.aiger.specs.Inner.{newer_in, Small, too_few, header_refusal, FaultOf, Limits, Sized, Held, wrong_rows, short, last_refusal, Enters, Judges};
 
 use base::{Fault, Refusal};
 
-use again::{Seen, Singles, right_starts, see};
+use again::{Singles, see, wrong_start};
 use clauses::{enter_bad, enter_start, enter_step, fixed_starts};
 use find::{all_known, defined_twice, loop_free};
-use read::{Header, Reading, read};
+use read::{Edition, Header, Reading, read};
 use system::Clause;
 
 // n, w and the counts of masks.
@@ -162,42 +162,45 @@ fn judge(
     if wrong_rows(rows, h) {
         return Err(Refusal::Variables);
     }
-    let Seen {
-        known,
-        watched,
-        constraints,
-    } = see(text, h, r.singles, rows, h.latches as usize);
-    if !known {
+    let Some(seen) = see(text, h, r.singles, rows, h.latches as usize) else {
         return Err(Refusal::Variables);
-    }
+    };
     if !loop_free(&rows[3 * (h.latches + h.inputs) as usize..]) {
         return Err(Refusal::Loop);
     }
     let latches = &rows[..3 * h.latches as usize];
     last_refusal(h, latches, start.len(), step.len(), bad.len())?;
-    Ok(enter(text, constraints, rows, h, watched, start, step, bad))
+    Ok(enter(
+        text,
+        seen.constraints,
+        rows,
+        h,
+        seen.watched,
+        start,
+        step,
+        bad,
+    ))
 }
 
-// A circuit of this edition or of the first.
+// A circuit of this edition.
 fn import_as(
-    newer: bool,
+    edition: Edition,
     text: &[u8],
     start: &mut [u64],
     step: &mut [u64],
     bad: &mut [u64],
 ) -> Result<Imported, Fault>
-    ensures { Imports newer text.now (lists start.old step.old bad.old)
+    ensures { Imports (newer_in edition) text.now (lists start.old step.old bad.old)
         (report_of result) (lists start.new step.new bad.new) }
 {
     let mut rows = [0u64; ROWS];
-    let r = read(newer, text, &mut rows)?;
+    let r = read(edition, text, &mut rows)?;
     let h = r.header;
     if too_few(h) {
         return Err(fault_of(Refusal::TooFew));
     }
-    let right = right_starts(text, r.latches, h.latches);
-    if right < h.latches {
-        let line = (2 + h.inputs + right) as usize;
+    if let Some(k) = wrong_start(text, r.latches, h.latches) {
+        let line = (2 + h.inputs + k) as usize;
         return Err(Fault {
             refusal: Refusal::StartValue,
             line,
@@ -219,7 +222,7 @@ pub fn import(
     ensures { Imports first_edition text.now (lists start.old step.old bad.old)
         (report_of result) (lists start.new step.new bad.new) }
 {
-    import_as(false, text, start, step, bad)
+    import_as(Edition::First, text, start, step, bad)
 }
 
 // The same of the newer edition; what the first takes it reads alike.
@@ -232,5 +235,5 @@ pub fn import_newer(
     ensures { Imports newer_edition text.now (lists start.old step.old bad.old)
         (report_of result) (lists start.new step.new bad.new) }
 {
-    import_as(true, text, start, step, bad)
+    import_as(Edition::Newer, text, start, step, bad)
 }

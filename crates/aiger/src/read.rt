@@ -4,12 +4,19 @@
 ghost use Rattle.std.specs.Prelude.{◌≡◌, ◌≤◌, length, drop};
 ghost use Rattle.text.specs.Lines.{lines};
 ghost use Rattle.aiger.specs.Text.{most_counts, parts_of, behind_header, tells};
-ghost use Rattle.aiger.specs.Inner.{HeadOf, begun, wrong_form, Small, most_rows, ReadAs};
+ghost use Rattle.aiger.specs.Inner.{newer_in, HeadOf, Small, most_rows, ReadAs};
 
 use base::{Fault, Refusal};
 
 use super::numbers::numbers;
-use super::part::{Form, Progress, take_part};
+use super::part::{Form, Lines, take_part, wrong_form};
+
+// The first edition takes the fewer counts, and no start values.
+#[derive(Clone, Copy)]
+pub(super) enum Edition {
+    First,
+    Newer,
+}
 
 // The counts of the header, and whether it was read in the newer edition.
 #[derive(Clone, Copy)]
@@ -34,30 +41,36 @@ pub(super) struct Reading {
     pub(super) singles: usize,
 }
 
-// The most counts of a header.
-fn most_counts(newer: bool) -> usize
-    ensures { result ≡ most_counts newer }
-{
-    if newer { 9 } else { 5 }
+impl Edition {
+    fn is_newer(self) -> bool
+        ensures { result ≡ newer_in self }
+    {
+        matches!(self, Edition::Newer)
+    }
+
+    // The most counts of a header.
+    fn most_counts(self) -> usize
+        ensures { result ≡ most_counts (newer_in self) }
+    {
+        match self {
+            Edition::First => 5,
+            Edition::Newer => 9,
+        }
+    }
 }
 
 // The first line.
-fn head_of(newer: bool, line: &[u8]) -> Option<Header>
-    ensures { HeadOf newer line.now result }
+fn head_of(edition: Edition, line: &[u8]) -> Option<Header>
+    ensures { HeadOf (newer_in edition) line.now result }
 {
-    if line.len() < 4 {
-        return None;
-    }
-    if line[0] != 97 || line[1] != 97 || line[2] != 103 || line[3] != 32 {
-        return None;
-    }
+    let behind = line.strip_prefix(b"aag ")?;
     let mut counts = [0u64; 9];
-    let count = numbers(&line[4..], &mut counts);
-    if count < 5 || most_counts(newer) < count {
+    let count = numbers(behind, &mut counts)?;
+    if count < 5 || edition.most_counts() < count {
         return None;
     }
     Some(Header {
-        newer,
+        newer: edition.is_newer(),
         m: counts[0],
         inputs: counts[1],
         latches: counts[2],
@@ -70,86 +83,53 @@ fn head_of(newer: bool, line: &[u8]) -> Option<Header>
     })
 }
 
-// A part begins at this line and index, and its first row is to stand at `row`.
-fn begin(form: Form, count: u64, line: usize, at: usize, row: usize) -> Progress
-    ensures { result ≡ begun form count line at row }
-{
-    Progress {
-        more: 0 < count,
-        fault: false,
-        left: count,
-        line,
-        at,
-        row,
-        form,
-    }
-}
-
-// A line that is missing or wrong.
-fn wrong_form(line: usize) -> Fault
-    ensures { result ≡ wrong_form line }
-{
-    Fault {
-        refusal: Refusal::Form,
-        line,
-    }
-}
-
 // The parts behind the header, which ends at this index.
 fn read_parts(text: &[u8], at: usize, h: Header, rows: &mut [u64]) -> Result<Reading, Fault>
     requires { Small h × (at ≤ length text.now) × (length rows.old ≤ most_rows) }
     ensures { ReadAs text.now (parts_of h (lines (drop at text.now))) rows.old result rows.new }
 {
-    let most = 2 * h.m + 1;
-    let latches = 3 * h.latches as usize;
     let form = Form {
         width: 1,
         starts: false,
         defines: true,
-        most,
+        most: 2 * h.m + 1,
     };
-    let s = take_part(text, begin(form, h.inputs, 2, at, latches), rows);
-    if s.fault {
-        return Err(wrong_form(s.line));
-    }
-    let latches_at = s.at;
-    let form = Form {
-        width: 2,
-        starts: h.newer,
-        defines: true,
-        most,
+    let front = 3 * h.latches as usize;
+    let inputs = Lines {
+        form,
+        count: h.inputs,
+        first: 2,
+        row: front,
     };
-    let s = take_part(text, begin(form, h.latches, s.line, s.at, 0), rows);
-    if s.fault {
-        return Err(wrong_form(s.line));
-    }
-    let singles_at = s.at;
-    let singles = h.outputs + h.bads + h.constraints;
-    let form = Form {
-        width: 1,
-        starts: false,
-        defines: false,
-        most,
+    let latches_at = take_part(text, at, inputs, rows)?;
+    let latches = Lines {
+        form: Form {
+            width: 2,
+            starts: h.newer,
+            ..form
+        },
+        count: h.latches,
+        first: inputs.behind(),
+        row: 0,
     };
-    let none = rows.len();
-    let s = take_part(text, begin(form, singles, s.line, s.at, none), rows);
-    if s.fault {
-        return Err(wrong_form(s.line));
-    }
-    let form = Form {
-        width: 3,
-        starts: false,
-        defines: true,
-        most,
+    let singles_at = take_part(text, latches_at, latches, rows)?;
+    let singles = Lines {
+        form: Form {
+            defines: false,
+            ..form
+        },
+        count: h.outputs + h.bads + h.constraints,
+        first: latches.behind(),
+        row: rows.len(),
     };
-    let s = take_part(
-        text,
-        begin(form, h.gates, s.line, s.at, latches + 3 * h.inputs as usize),
-        rows,
-    );
-    if s.fault {
-        return Err(wrong_form(s.line));
-    }
+    let gates_at = take_part(text, singles_at, singles, rows)?;
+    let gates = Lines {
+        form: Form { width: 3, ..form },
+        count: h.gates,
+        first: singles.behind(),
+        row: front + 3 * h.inputs as usize,
+    };
+    take_part(text, gates_at, gates, rows)?;
     Ok(Reading {
         header: h,
         latches: latches_at,
@@ -172,12 +152,12 @@ fn read_behind(text: &[u8], at: usize, h: Header, rows: &mut [u64]) -> Result<Re
 }
 
 // The text: its first line at fault, or what it says.
-pub(super) fn read(newer: bool, text: &[u8], rows: &mut [u64]) -> Result<Reading, Fault>
+pub(super) fn read(edition: Edition, text: &[u8], rows: &mut [u64]) -> Result<Reading, Fault>
     requires { length rows.old ≤ most_rows }
-    ensures { ReadAs text.now (tells newer text.now) rows.old result rows.new }
+    ensures { ReadAs text.now (tells (newer_in edition) text.now) rows.old result rows.new }
 {
     let end = text::line_length(text, 0);
-    let Some(h) = head_of(newer, &text[..end]) else {
+    let Some(h) = head_of(edition, &text[..end]) else {
         return Err(wrong_form(1));
     };
     read_behind(text, end, h, rows)

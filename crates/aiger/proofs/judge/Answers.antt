@@ -13,11 +13,11 @@ use Rattle.aiger.proofs.judge.Goals as goal
 wrong_24 : (a b : Bool) → a ≡ true → (a || b) ≡ true
 wrong_24 a b e = rw e
 
-unknown_24 : (a x k : Bool) → a ≡ false → x ≡ k → x ≡ false → (a || not k) ≡ true
-unknown_24 a x k e f g = rw (e, ← f, g)
+unknown_24 : (a k : Bool) → a ≡ false → k ≡ false → (a || not k) ≡ true
+unknown_24 a k e f = rw (e, f)
 
-right_24 : (a x k : Bool) → a ≡ false → x ≡ k → x ≡ true → (a || not k) ≡ false
-right_24 a x k e f g = rw (e, ← f, g)
+right_24 : (a k : Bool) → a ≡ false → k ≡ true → (a || not k) ≡ false
+right_24 a k e f = rw (e, f)
 
 pub wrong_rows-requires : goal.wrong_rows-requires
 wrong_rows-requires c = held_sized c.requires
@@ -26,14 +26,13 @@ pub returns-then-wrong_rows : goal.returns-then-wrong_rows
 returns-then-wrong_rows c h =
     (number_24 h _ _ _ (wrong_24 _ _ (sym c.wrong_rows.ensures ∙ c.if-wrong_rows.true)), λ e. omega arith, refl)
 
-pub see-known-requires : goal.see-known-requires
-see-known-requires c = (fits _ _ (held_sized c.requires), c.requires.counted.singles_again.1.within)
+pub see-requires : goal.see-requires
+see-requires c = (fits _ _ (held_sized c.requires), c.requires.counted.singles_again.1.within)
 
-pub returns-then-not-known : goal.returns-then-not-known
-returns-then-not-known c h = (
+pub returns-in_default : goal.returns-in_default
+returns-in_default c h = (
   number_24 h _ _ _
-      (unknown_24 _ _ _ (sym c.wrong_rows.ensures ∙ c.if-wrong_rows.false) (c.see-known.ensures.says h.singles h.counted.singles_again).0
-      c.if-not-known.true),
+      (unknown_24 _ _ (sym c.wrong_rows.ensures ∙ c.if-wrong_rows.false) (c.in_default.ensures.unknown refl h.singles h.counted.singles_again)),
   λ e. omega arith,
   refl,
 )
@@ -44,7 +43,7 @@ loop_free-requires c = (gates_threes _ _ (held_sized c.requires), few_gates _ _ 
 pub returns-then-not-loop_free : goal.returns-then-not-loop_free
 returns-then-not-loop_free c h =
     let fine = sym c.wrong_rows.ensures ∙ c.if-wrong_rows.false in (
-      number_25 h _ _ _ (right_24 _ _ _ fine (c.see-known.ensures.says h.singles h.counted.singles_again).0 c.if-not-known.false)
+      number_25 h _ _ _ (right_24 _ _ fine (c.in-Some.ensures.says _ refl h.singles h.counted.singles_again).0)
           (sym (held_loops h fine _ c.loop_free.ensures) ∙ c.if-not-loop_free.true),
       λ e. omega arith,
       refl,
@@ -61,7 +60,7 @@ returns-in_err-last_refusal c h =
     let p = err_from_is_err_and c.from_residual.result c.from_residual.ensures.1 in
     let found = c.in_err-last_refusal.ensures in
     rw (p.1, p.2) (
-      number_last h _ _ _ (right_24 _ _ _ fine (c.see-known.ensures.says h.singles h.counted.singles_again).0 c.if-not-known.false)
+      number_last h _ _ _ (right_24 _ _ fine (c.in-Some.ensures.says _ refl h.singles h.counted.singles_again).0)
           (sym (held_loops h fine _ c.loop_free.ensures) ∙ c.if-not-loop_free.false)
           ∙ sym (last_found h _ _ _ _ found),
       last_other h _ _ _ _ found,
@@ -72,14 +71,14 @@ pub enter-requires : goal.enter-requires
 enter-requires c =
     let h = c.requires in
     let none = last_none h _ _ _ 0 c.in_ok-last_refusal.ensures refl in
-    (held_sized h, c.see-known.ensures.within, omega (arith, c.see-known.ensures.count, last_few h _ _ _ none))
+    (held_sized h, (c.in-Some.ensures.within _ refl).0, omega (arith, (c.in-Some.ensures.within _ refl).1, last_few h _ _ _ none))
 
 pub returns : goal.returns
 returns c h =
     let fine = sym c.wrong_rows.ensures ∙ c.if-wrong_rows.false in
-    let seen = c.see-known.ensures.says h.singles h.counted.singles_again in
+    let seen = c.in-Some.ensures.says _ refl h.singles h.counted.singles_again in
     let none = last_none h _ _ _ 0 c.in_ok-last_refusal.ensures refl in (
-      number_last h _ _ _ (right_24 _ _ _ fine seen.0 c.if-not-known.false) (sym (held_loops h fine _ c.loop_free.ensures) ∙ c.if-not-loop_free.false)
+      number_last h _ _ _ (right_24 _ _ fine seen.0) (sym (held_loops h fine _ c.loop_free.ensures) ∙ c.if-not-loop_free.false)
           ∙ none,
       enters_system h _ (last_room h _ _ _ none) _ _ _ _ c.enter.ensures seen.1 seen.2,
     )
