@@ -10,35 +10,45 @@ use Rattle.std.specs.Prelude.{Ok, Err}
 use Rattle.base.specs.declared.Fault.{Fault}
 use Rattle.text.specs.Lines.{lines}
 use Rattle.text.specs.Writing.{Writes}
-use Rattle.text.proofs.Laying.{writes_then, writes_none, writes_length}
+use Rattle.text.proofs.Laying.{writes_then, writes_none}
 use Rattle.aiger.specs.Text.{row_of, Part, with_row, part}
-use Rattle.aiger.specs.Inner.{row_list, ReadsLine, wrong_form, part_from, Takes}
+use Rattle.aiger.specs.Inner.{row_list, flattened, PutsRow, ReadsLine, wrong_form, part_from, Takes}
 use Rattle.aiger.specs.declared.part.Line.{Line}
 use Rattle.aiger.specs.declared.part.Lines.{Lines}
+use Rattle.aiger.specs.declared.part.Row.{Row}
 use Rattle.aiger.proofs.Rows.{with_none, with_both, behind_row, part_next}
 
-module _ (text : List ℕ) (l : Lines) (from : ℕ) (before : List ℕ) where
+-- a row that is put is three numbers that are written
+put_writes : {at : ℕ} {row : Row} {before after : List Row} → PutsRow at row before after
+    → Writes (3 * at) (row_list row) (flattened before) (3 * at + 3) (flattened after)
+put_writes w = record { content = w.content; end = refl }
+
+module _ (text : List ℕ) (l : Lines) (from : ℕ) (before : List Row) where
   abbrev left : ℕ → ℕ → Part
   left k at = part l.form (l.count - k) (l.first + k) (lines (drop at text))
 
   -- so many of the lines were read
-  pub record Taken (k at : ℕ) (store : List ℕ) : Type 0 where
+  pub record Taken (k at : ℕ) (store : List Row) : Type 0 where
     pub within : at ≤ length text
     pub rows : List ℕ
     pub says : part_from text l from ≡ with_row rows (left k at)
-    pub writes : Writes l.row rows before (l.row + 3 * k) store
+    pub same : length store ≡ length before
+    pub writes : Writes (3 * l.row) rows (flattened before) (3 * (l.row + k)) (flattened store)
 
   pub taken_none : from ≤ length text → Taken 0 from before
   taken_none h =
-      let w = writes_none l.row before in
+      let w = writes_none (3 * l.row) (flattened before) in
       let all : l.count - 0 ≡ l.count = omega arith in
       let first : l.first + 0 ≡ l.first = omega arith in
-      record { within = h; rows = []; says = rw (all, first) (sym (with_none (part_from text l from))); writes = record { content = w.content; end = omega (arith, w.end) } }
+      record {
+        within = h;
+        rows = [];
+        says = rw (all, first) (sym (with_none (part_from text l from)));
+        same = refl;
+        writes = record { content = w.content; end = omega (arith, w.end) };
+      }
 
-  module _ {k at : ℕ} {store : List ℕ} (t : Taken k at store) where
-    pub taken_length : length store ≡ length before
-    taken_length = writes_length t.writes
-
+  module _ {k at : ℕ} {store : List Row} (t : Taken k at store) where
     module _ (h : k < l.count) {line : Line} (read : ReadsLine text at line) where
       abbrev bytes : List ℕ
       bytes = take (line.end - at) (drop at text)
@@ -51,24 +61,25 @@ module _ (text : List ℕ) (l : Lines) (from : ℕ) (before : List ℕ) where
           ∙ (part_next l.form (l.count - (k + 1)) (l.first + k) text at line.end t.within read.ends
           ∙ ap (λ (m : ℕ). behind_row (row_of l.form bytes) (l.first + k) (part l.form (l.count - (k + 1)) m (lines (drop line.end text)))) i)
 
-      pub taken_next : row_of l.form bytes ≡ some (row_list line.row) → {next : ℕ} {after : List ℕ}
-          → Writes (l.row + 3 * k) (row_list line.row) store next after → Taken (k + 1) line.end after
+      pub taken_next : row_of l.form bytes ≡ some (row_list line.row) → {after : List Row}
+          → PutsRow (l.row + k) line.row store after → Taken (k + 1) line.end after
       taken_next e w =
-          let both = writes_then t.writes w in
+          let both = writes_then t.writes (put_writes w) in
           record {
             within = read.within;
             rows = t.rows ++ row_list line.row;
             says = t.says
                 ∙ (ap (with_row t.rows) (left_next ∙ ap (λ o. behind_row o (l.first + k) (left (k + 1) line.end)) e)
                 ∙ with_both t.rows (row_list line.row) (left (k + 1) line.end));
-            writes = record { content = both.content; end = omega (arith, both.end, w.end) };
+            same = w.same ∙ t.same;
+            writes = record { content = both.content; end = omega (arith, both.end) };
           }
 
       pub taken_wrong : row_of l.form bytes ≡ none → {f : Fault} → f ≡ wrong_form (l.first + k) → Takes text l from before (Err f) store
       unfolding with_row
       taken_wrong e {f} q =
           record {
-            same = taken_length;
+            same = t.same;
             wrong = λ g r.
                 let same : g ≡ wrong_form (l.first + k) = cc in
                 rw same
@@ -80,7 +91,7 @@ module _ (text : List ℕ) (l : Lines) (from : ℕ) (before : List ℕ) where
     unfolding with_row part
     taken_all e =
         record {
-          same = taken_length;
+          same = t.same;
           wrong = λ f r. cc;
           right = λ end r.
               let same : at ≡ end = cc in

@@ -125,13 +125,6 @@ pub found_at : {line : List ℕ} (n : ℕ) {count : ℕ} {store : List ℕ} (g :
     → get_or store k 0 ≡ get_or g.xs k 0
 found_at n g k = ap (λ l. get_or l k 0) g.content ∙ laid_zeros n g.xs k (omega (arith, g.count, g.fits, length-replicate {A = ℕ} n 0))
 
--- what is laid behind a buffer changes nothing
-pub laid_beyond : (i : ℕ) (w buffer : List ℕ) → length buffer ≤ i → laid i w buffer ≡ buffer
-unfolding laid
-laid_beyond i w [] h = refl
-laid_beyond zero w (b ∷ buffer) h = absurd (omega arith)
-laid_beyond (suc i) w (b ∷ buffer) h = ap {B = List ℕ} (λ l. b ∷ l) (laid_beyond i w buffer (omega arith))
-
 -- ---- a line's row
 -- what a line without numbers, and one with numbers, has for a row
 pub row_none : (f : Form) (line : List ℕ) → numbers line ≡ none → row_of f line ≡ none

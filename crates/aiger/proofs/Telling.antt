@@ -7,6 +7,7 @@ use mathlib.Core.List.{List, [], ◌∷◌, ◌++◌}
 use mathlib.Core.Logic.{⊎_elim}
 use mathlib.Core.Option.{Option, none, some}
 use mathlib.Core.Path.{◌≡◌, refl, ap, subst, ◌∙◌}
+use native.Mathlib.Nat.{mul-add}
 use native.Mathlib.Omega.{arith}
 use borrow.Author.Tests.{eq-eqb, eqb-true, le-leb, lt-leb}
 use lib.Dec.{eqb, leb}
@@ -23,12 +24,14 @@ use Rattle.text.specs.Writing.{laid}
 use Rattle.text.proofs.Lines.{line_at, line_end}
 use Rattle.aiger.specs.Text.{Part, broken, whole, begins, magic, most_counts, header_by, header_from, header_of, Told, malformed, behind}
 use Rattle.aiger.specs.Text.{defines, latch_form, uses, singles_of, parts_of, asks_justice, behind_header, lines_tell, tells}
-use Rattle.aiger.specs.Inner.{Numbered, Small, wrong_form, part_from, Read, Takes, Kept, ReadAs}
+use Rattle.aiger.specs.declared.part.Row.{Row}
+use Rattle.aiger.proofs.Threes.{flat_length, laid_beyond}
+use Rattle.aiger.specs.Inner.{flattened, Numbered, Small, wrong_form, part_from, Read, Takes, Kept, ReadAs}
 use Rattle.aiger.specs.declared.part.Lines.{Lines}
 use Rattle.aiger.specs.declared.read.Header.{Header}
 use Rattle.aiger.specs.declared.read.Reading.{Reading}
 use Rattle.aiger.proofs.Numbering.{numbers_small}
-use Rattle.aiger.proofs.Rows.{found_at, laid_beyond, part_whole}
+use Rattle.aiger.proofs.Rows.{found_at, part_whole}
 
 -- ---- the bytes in front
 pub begins_length : (p l : List ℕ) → begins p l ≡ true → length p ≤ length l
@@ -134,7 +137,7 @@ unfolding behind
 behind_whole next e = ap (λ p. behind p next) e
 
 -- what is wrong with the form
-read_fault : {text : List ℕ} {what : Told} {before : List ℕ} {f : Fault} {after : List ℕ} → what ≡ malformed (number_of f.refusal) f.line
+read_fault : {text : List ℕ} {what : Told} {before : List Row} {f : Fault} {after : List Row} → what ≡ malformed (number_of f.refusal) f.line
     → length after ≡ length before → ReadAs text what before (Err f) after
 read_fault {what = what} {f = f} says same =
     record {
@@ -144,26 +147,27 @@ read_fault {what = what} {f = f} says same =
     }
 
 -- what was kept
-read_kept : {text : List ℕ} {what : Told} {before : List ℕ} {q : Reading} {after : List ℕ} → Kept text what before q after
+read_kept : {text : List ℕ} {what : Told} {before : List Row} {q : Reading} {after : List Row}
+    → Kept text what (flattened before) q (flattened after)
     → length after ≡ length before → ReadAs text what before (Ok q) after
 read_kept {text} {what} {before} {q} {after} kept same =
     record {
       same = same;
       wrong = λ f e. cc;
-      right = λ r e. let f : q ≡ r = cc in subst (λ (x : Reading). Kept text what before x after) f kept;
+      right = λ r e. let f : q ≡ r = cc in subst (λ (x : Reading). Kept text what (flattened before) x (flattened after)) f kept;
     }
 
 -- a part has a line at fault, and so has the text
-fault_part : {text : List ℕ} {l : Lines} {from : ℕ} {before : List ℕ} {f : Fault} {after : List ℕ} (t : Takes text l from before (Err f) after)
-    → {what : Told} {first : List ℕ} → length before ≡ length first
+fault_part : {text : List ℕ} {l : Lines} {from : ℕ} {before : List Row} {f : Fault} {after : List Row} (t : Takes text l from before (Err f) after)
+    → {what : Told} {first : List Row} → length before ≡ length first
     → ((k : ℕ) → part_from text l from ≡ broken k → what ≡ malformed 20 k) → ReadAs text what first (Err f) after
 fault_part {f = f} t same says =
     let w = t.wrong f refl in
     read_fault (rw w.0 (says f.line w.1)) (t.same ∙ same)
 
-module _ (text : List ℕ) (h : Header) (at : ℕ) (before : List ℕ) where
+module _ (text : List ℕ) (h : Header) (at : ℕ) (before : List Row) where
   abbrev pub inputs_lines : Lines
-  inputs_lines = record { form = defines h 1; count = h.inputs; first = 2; row = 3 * h.latches }
+  inputs_lines = record { form = defines h 1; count = h.inputs; first = 2; row = h.latches }
 
   abbrev pub latches_lines : Lines
   latches_lines = record { form = latch_form h; count = h.latches; first = 2 + h.inputs; row = 0 }
@@ -173,37 +177,37 @@ module _ (text : List ℕ) (h : Header) (at : ℕ) (before : List ℕ) where
 
   abbrev pub gates_lines : Lines
   gates_lines =
-      record { form = defines h 3; count = h.gates; first = 2 + h.inputs + h.latches + singles_of h; row = 3 * h.latches + 3 * h.inputs }
+      record { form = defines h 3; count = h.gates; first = 2 + h.inputs + h.latches + singles_of h; row = h.latches + h.inputs }
 
-  pub fault_inputs : {b : List ℕ} {f : Fault} → Takes text inputs_lines at before (Err f) b → ReadAs text (parts_of h (lines (drop at text))) before (Err f) b
+  pub fault_inputs : {b : List Row} {f : Fault} → Takes text inputs_lines at before (Err f) b → ReadAs text (parts_of h (lines (drop at text))) before (Err f) b
   unfolding parts_of
   fault_inputs t = fault_part t refl (λ k w. behind_broken _ w)
 
-  module _ {i : ℕ} {b : List ℕ} (inputs : Takes text inputs_lines at before (Ok i) b) where
+  module _ {i : ℕ} {b : List Row} (inputs : Takes text inputs_lines at before (Ok i) b) where
     abbrev first_read : Read text inputs_lines at before i b
     first_read = inputs.right i refl
 
-    pub fault_latches : {b' : List ℕ} {f : Fault} → Takes text latches_lines i b (Err f) b'
+    pub fault_latches : {b' : List Row} {f : Fault} → Takes text latches_lines i b (Err f) b'
         → ReadAs text (parts_of h (lines (drop at text))) before (Err f) b'
     unfolding parts_of
     fault_latches t = fault_part t inputs.same (λ k w. behind_whole _ first_read.says ∙ behind_broken _ w)
 
-    module _ {j : ℕ} {b' : List ℕ} (latches : Takes text latches_lines i b (Ok j) b') where
+    module _ {j : ℕ} {b' : List Row} (latches : Takes text latches_lines i b (Ok j) b') where
       abbrev second_read : Read text latches_lines i b j b'
       second_read = latches.right j refl
 
-      pub fault_singles : {row : ℕ} {d : List ℕ} {f : Fault} → Takes text (singles_lines row) j b' (Err f) d
+      pub fault_singles : {row : ℕ} {d : List Row} {f : Fault} → Takes text (singles_lines row) j b' (Err f) d
           → ReadAs text (parts_of h (lines (drop at text))) before (Err f) d
       unfolding parts_of
       fault_singles t =
           fault_part t (latches.same ∙ inputs.same)
           (λ k w. behind_whole _ first_read.says ∙ (behind_whole _ second_read.says ∙ behind_broken _ w))
 
-      module _ {row k : ℕ} {d : List ℕ} (singles : Takes text (singles_lines row) j b' (Ok k) d) where
+      module _ {row k : ℕ} {d : List Row} (singles : Takes text (singles_lines row) j b' (Ok k) d) where
         abbrev third_read : Read text (singles_lines row) j b' k d
         third_read = singles.right k refl
 
-        pub fault_gates : {d' : List ℕ} {f : Fault} → Takes text gates_lines k d (Err f) d'
+        pub fault_gates : {d' : List Row} {f : Fault} → Takes text gates_lines k d (Err f) d'
             → ReadAs text (parts_of h (lines (drop at text))) before (Err f) d'
         unfolding parts_of
         fault_gates t =
@@ -213,7 +217,7 @@ module _ (text : List ℕ) (h : Header) (at : ℕ) (before : List ℕ) where
             ∙ (behind_whole _ second_read.says ∙ (behind_whole _ third_read.says ∙ behind_broken _ w)))
 
         -- all four are whole; those of one literal were written behind the store
-        pub parts_right : {m : ℕ} {d' : List ℕ} → Small h → length b' ≤ row → Takes text gates_lines k d (Ok m) d'
+        pub parts_right : {m : ℕ} {d' : List Row} → Small h → length b' ≤ row → Takes text gates_lines k d (Ok m) d'
             → ReadAs text (parts_of h (lines (drop at text))) before (Ok (record { header = h; latches = i; singles = j })) d'
         unfolding parts_of
         parts_right {m} small beyond gates =
@@ -235,15 +239,17 @@ module _ (text : List ℕ) (h : Header) (at : ℕ) (before : List ℕ) where
                 singles_again = (_, record { within = second_read.within; from = _; line = _; says = third_read.says });
               };
               content = last.content
+                  ∙ (ap (λ (i : ℕ). laid i last.rows (flattened d)) (mul-add 3 h.latches h.inputs)
                   ∙ ap (laid (3 * h.latches + 3 * h.inputs) last.rows)
                   (third_read.content
-                  ∙ (laid_beyond row third_read.rows b' beyond ∙ (second_read.content ∙ ap (laid 0 second_read.rows) first_read.content)));
+                  ∙ (laid_beyond (3 * row) third_read.rows (flattened b') (omega (arith, beyond, flat_length b'))
+                  ∙ (second_read.content ∙ ap (laid 0 second_read.rows) first_read.content))));
             })
             (gates.same ∙ (singles.same ∙ (latches.same ∙ inputs.same)))
 
 -- a header that asks for more than safety
 module _ (text : List ℕ) (h : Header) (ls : List (List ℕ)) where
-  pub read_justice : {before : List ℕ} → ((h.justice ≡ 0) × (h.fairness ≡ 0) → ⊥)
+  pub read_justice : {before : List Row} → ((h.justice ≡ 0) × (h.fairness ≡ 0) → ⊥)
       → ReadAs text (behind_header h ls) before (Err (record { refusal = refusal.Justice; line = 1 })) before
   unfolding behind_header asks_justice
   read_justice f =
@@ -252,7 +258,7 @@ module _ (text : List ℕ) (h : Header) (ls : List (List ℕ)) where
       (λ b. let p = both _ _ b in absurd (f (eqb-true h.justice 0 p.0, eqb-true h.fairness 0 p.1)))
       (λ b. rw (b, behind_header))) refl
 
-  pub read_safety : {before : List ℕ} {r : Result Reading Fault} {after : List ℕ} → h.justice ≡ 0 → h.fairness ≡ 0
+  pub read_safety : {before : List Row} {r : Result Reading Fault} {after : List Row} → h.justice ≡ 0 → h.fairness ≡ 0
       → ReadAs text (parts_of h ls) before r after → ReadAs text (behind_header h ls) before r after
   unfolding behind_header asks_justice
   read_safety e f t = rw (eq-eqb h.justice 0 e, eq-eqb h.fairness 0 f, behind_header) t
@@ -290,11 +296,11 @@ module _ (newer : Bool) where
         (lt_or_ge 0 (length text))
 
     -- the parts are read behind a header, and nothing is read behind any other line
-    pub read_header : {h : Header} {before : List ℕ} {r : Result Reading Fault} {after : List ℕ} → header_of newer (take end text) ≡ some h
+    pub read_header : {h : Header} {before : List Row} {r : Result Reading Fault} {after : List Row} → header_of newer (take end text) ≡ some h
         → ReadAs text (behind_header h (lines (drop end text))) before r after → ReadAs text (tells newer text) before r after
     read_header f t = rw (tells_first ∙ ap (λ o. behind_head o (lines (drop end text))) f) t
 
-    pub read_other : {before : List ℕ} {f : Fault} → header_of newer (take end text) ≡ none → f ≡ wrong_form 1
+    pub read_other : {before : List Row} {f : Fault} → header_of newer (take end text) ≡ none → f ≡ wrong_form 1
         → ReadAs text (tells newer text) before (Err f) before
     read_other e f = rw f (read_fault {f = wrong_form 1} (tells_first ∙ ap (λ o. behind_head o (lines (drop end text))) e) refl)
 

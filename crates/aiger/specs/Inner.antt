@@ -1,5 +1,5 @@
 -- What the private functions require and ensure, with a name for each fact. Nothing here has to be believed: no public promise mentions it.
-use Rattle.std.specs.Prelude.{ℕ, ◌+◌, ◌-◌, ◌*◌, ◌/◌, ◌^◌, ◌≤◌, ◌<◌, Bool, true, false, not, ◌||◌, ◌&&◌, List, [], ◌∷◌, ◌++◌, ◌≡◌, eqb, ltb, length, take, drop, replicate, Option, Some, None, Result, Ok, Err}
+use Rattle.std.specs.Prelude.{ℕ, ◌+◌, ◌-◌, ◌*◌, ◌/◌, ◌^◌, ◌≤◌, ◌<◌, Bool, true, false, not, ◌||◌, ◌&&◌, List, [], ◌∷◌, ◌++◌, ◌≡◌, eqb, ltb, leb, length, take, drop, replicate, Option, Some, None, Result, Ok, Err}
 use Rattle.std.proofs.Math.Option.{none, some}
 use Rattle.base.specs.Refusals.{◌if◌, ◌else◌, most_clauses}
 use Rattle.base.specs.Numbers.{number_of}
@@ -52,6 +52,19 @@ pub record Numbered (line before : List ℕ) (r : Option ℕ) (after : List ℕ)
 abbrev pub row_list : Row → List ℕ
 row_list row = row.literal ∷ (row.second ∷ (row.third ∷ []))
 
+abbrev pub no_row : Row
+no_row = record { literal = 0; second = 0; third = 0 }
+
+-- rows one behind the other
+abbrev pub flattened : List Row → List ℕ
+flattened [] = []
+flattened (row ∷ rows) = row.literal ∷ (row.second ∷ (row.third ∷ flattened rows))
+
+-- a row at this index, as far as the store reaches
+pub record PutsRow (at : ℕ) (row : Row) (before after : List Row) : Type 0 where
+  pub same : length after ≡ length before
+  pub content : flattened after ≡ laid (3 * at) (row_list row) (flattened before)
+
 -- the line that begins at this index
 pub record ReadsLine (text : List ℕ) (at : ℕ) (line : Line) : Type 0 where
   pub within : line.end ≤ length text
@@ -81,20 +94,20 @@ pub record TakesLine (form : Form) (line : Line) (r : Bool) : Type 0 where
 pub record Begins (text : List ℕ) (from : ℕ) (l : Lines) : Type 0 where
   pub fine : Fine l.form
   pub within : from ≤ length text
-  pub rows : l.row + 3 * l.count < 2 ^ 62
+  pub rows : l.row + l.count < 2 ^ 62
   pub lines : l.first + l.count < 2 ^ 62
 
 abbrev pub part_from : List ℕ → Lines → ℕ → Part
 part_from text l from = part l.form l.count l.first (lines (drop from text))
 
 -- all were read: their rows, where they were written, and where the next part begins
-pub record Read (text : List ℕ) (l : Lines) (from : ℕ) (before : List ℕ) (end : ℕ) (after : List ℕ) : Type 0 where
+pub record Read (text : List ℕ) (l : Lines) (from : ℕ) (before : List Row) (end : ℕ) (after : List Row) : Type 0 where
   pub rows : List ℕ
   pub says : part_from text l from ≡ whole rows (l.first + l.count) (lines (drop end text))
-  pub content : after ≡ laid l.row rows before
+  pub content : flattened after ≡ laid (3 * l.row) rows (flattened before)
   pub within : end ≤ length text
 
-pub record Takes (text : List ℕ) (l : Lines) (from : ℕ) (before : List ℕ) (r : Result ℕ Fault) (after : List ℕ) : Type 0 where
+pub record Takes (text : List ℕ) (l : Lines) (from : ℕ) (before : List Row) (r : Result ℕ Fault) (after : List Row) : Type 0 where
   pub same : length after ≡ length before
   pub wrong : (f : Fault) → r ≡ Err f → (f.refusal ≡ refusal.Form) × (part_from text l from ≡ broken f.line)
   pub right : (end : ℕ) → r ≡ Ok end → Read text l from before end after
@@ -121,9 +134,9 @@ HeadOf newer line None = header_of newer line ≡ none
 abbrev pub wrong_form : ℕ → Fault
 wrong_form line = record { refusal = refusal.Form; line = line }
 
--- numbers of the most rows
+-- the most rows
 abbrev pub most_rows : ℕ
-most_rows = 288
+most_rows = 96
 
 -- the latches of these rows start at 0
 abbrev pub Low : List ℕ → Type 0
@@ -160,16 +173,15 @@ pub record Kept (text : List ℕ) (what : Told) (before : List ℕ) (r : Reading
   pub content :
       after ≡ laid (3 * r.header.latches + 3 * r.header.inputs) gates (laid 0 latches (laid (3 * r.header.latches) inputs before))
 
-pub record ReadAs (text : List ℕ) (what : Told) (before : List ℕ) (r : Result Reading Fault) (after : List ℕ) : Type 0 where
+pub record ReadAs (text : List ℕ) (what : Told) (before : List Row) (r : Result Reading Fault) (after : List Row) : Type 0 where
   pub same : length after ≡ length before
   pub wrong : (f : Fault) → r ≡ Err f → what ≡ malformed (number_of f.refusal) f.line
-  pub right : (q : Reading) → r ≡ Ok q → Kept text what before q after
+  pub right : (q : Reading) → r ≡ Ok q → Kept text what (flattened before) q (flattened after)
 
 -- ---- variables
--- so many rows of three
-pub record Threes (rows : List ℕ) : Type 0 where
-  pub count : ℕ
-  pub many : length rows ≡ 3 * count
+-- whether a row is a variable's
+abbrev pub has_var : ℕ → Row → Bool
+has_var v row = eqb (row.literal / 2) v
 
 unfoldable pub known_in : List ℕ → ℕ → Bool
 known_in vs l = eqb (l / 2) 0 || listed vs (l / 2)
@@ -177,6 +189,9 @@ known_in vs l = eqb (l / 2) 0 || listed vs (l / 2)
 -- the second and third number of each row are known
 abbrev pub all_known : List ℕ → List ℕ → Bool
 all_known vs rows = every (λ (g : Gate). known_in vs g.left && known_in vs g.right) (gates_of rows)
+
+abbrev pub line_known : List ℕ → Row → Bool
+line_known vs row = known_in vs row.second && known_in vs row.third
 
 -- where no variable is defined twice, the test for refusal 25
 abbrev pub LoopFree : List ℕ → Bool → Type 0
@@ -197,11 +212,10 @@ abbrev pub gate_of : ℕ → ℕ → ℕ → Gate
 gate_of out left right = record { out = out / 2; left = left; right = right }
 
 -- the rows of up to 32 latches and up to 64 wires
-pub record Fits (rows : List ℕ) (latches : ℕ) : Type 0 where
-  pub threes : Threes rows
+pub record Fits (rows : List Row) (latches : ℕ) : Type 0 where
   pub most : latches ≤ 32
-  pub within : 3 * latches ≤ length rows
-  pub wires : length rows ≤ 3 * (latches + 64)
+  pub within : latches ≤ length rows
+  pub wires : length rows ≤ latches + 64
 
 -- where a variable stands, by its row
 unfoldable pub place_in : List ℕ → ℕ → ℕ → Place
@@ -209,6 +223,10 @@ place_in vs latches v = elim (listed vs v) [ true ↦ place_at latches (index vs
 
 abbrev pub place_by : List ℕ → ℕ → ℕ → Place
 place_by rows latches = place_in (vars rows) latches
+
+-- whether a latch's start value is not "either"
+abbrev pub is_fixed : Row → Bool
+is_fixed row = leb row.third 1
 
 -- the three lists, by rows
 unfoldable pub start_list : List ℕ → List ℕ
@@ -296,23 +314,23 @@ pub record Limits (h : Header) : Type 0 where
   pub latches : h.latches ≤ 32
   pub wires : h.inputs + h.gates ≤ 64
 
-pub record Sized (h : Header) (rows : List ℕ) : Type 0 where
+pub record Sized (h : Header) (rows : List Row) : Type 0 where
   pub limits : Limits h
-  pub many : length rows ≡ 3 * (h.latches + h.inputs + h.gates)
+  pub many : length rows ≡ h.latches + h.inputs + h.gates
 
 -- what is judged: the rows of latches, inputs and gates, and the literals that stand alone
-pub record Held (text : List ℕ) (r : Reading) (rows : List ℕ) : Type 0 where
+pub record Held (text : List ℕ) (r : Reading) (rows : List Row) : Type 0 where
   pub inputs : List ℕ
   pub latches : List ℕ
   pub singles : List ℕ
   pub gates : List ℕ
   pub counted : Counted text r inputs latches singles gates
-  pub content : rows ≡ latches ++ (inputs ++ gates)
+  pub content : flattened rows ≡ latches ++ (inputs ++ gates)
   pub enough : too_few r.header ≡ false
   pub right : any wrong_start (latches_of latches) ≡ false
   pub header : header_refusal r.header ≡ 0
 
-abbrev pub circuit_in : {text : List ℕ} {r : Reading} {rows : List ℕ} → Held text r rows → Circuit
+abbrev pub circuit_in : {text : List ℕ} {r : Reading} {rows : List Row} → Held text r rows → Circuit
 circuit_in {r = r} h = circuit_of r.header h.inputs h.latches h.singles h.gates
 
 unfoldable pub wrong_rows : List ℕ → Header → Bool
@@ -360,7 +378,7 @@ Judged lent c number (Ok i) after =
 Judged lent c number (Err r) after = (number ≡ number_of r) × (number_of r ≡ 28 → ⊥) × (after ≡ lent)
 
 -- what was held is judged
-abbrev pub Judges : List ℕ → Reading → List ℕ → Lists → Result Imported Refusal → Lists → Type 0
+abbrev pub Judges : List ℕ → Reading → List Row → Lists → Result Imported Refusal → Lists → Type 0
 Judges text r rows lent result after =
     (h : Held text r rows)
     → Judged lent (circuit_in h) (import_refusal r.header.m (circuit_in h) (length lent.start) (length lent.step) (length lent.bad)) result after

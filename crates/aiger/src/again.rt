@@ -1,11 +1,11 @@
 // Lines that are read again, since there may be any number of them: start values of latches, and literals that stand alone in a line, which are outputs,
 // bad-state lines and constraints one behind the other. Their form is right, so each line has its numbers.
 ghost use Rattle.std.specs.Prelude.{◌≤◌, length};
-ghost use Rattle.aiger.specs.Inner.{RightStarts, Fits, Watches, Sees};
+ghost use Rattle.aiger.specs.Inner.{flattened, RightStarts, Fits, Watches, Sees};
 
 use super::clauses::{no_literal, with_literal};
 use super::find::is_known;
-use super::part::read_line;
+use super::part::{Row, read_line};
 use super::read::Header;
 use system::Clause;
 
@@ -49,9 +49,9 @@ pub(super) fn wrong_start(text: &[u8], from: usize, count: u64) -> Option<u64>
 }
 
 // Lines of one literal, read again, if all of them are known.
-fn watch(text: &[u8], s: Singles, rows: &[u64], latches: usize) -> Option<Watched>
+fn watch(text: &[u8], s: Singles, rows: &[Row], latches: usize) -> Option<Watched>
     requires { Fits rows.now latches × (s.at ≤ length text.now) }
-    ensures { Watches text.now s rows.now latches result }
+    ensures { Watches text.now s (flattened rows.now) latches result }
 {
     let mut at = s.at;
     let mut clause = no_literal();
@@ -68,9 +68,9 @@ fn watch(text: &[u8], s: Singles, rows: &[u64], latches: usize) -> Option<Watche
 }
 
 // All lines of one literal, from this index on, if all of them are known.
-pub(super) fn see(text: &[u8], h: Header, at: usize, rows: &[u64], latches: usize) -> Option<Seen>
+pub(super) fn see(text: &[u8], h: Header, at: usize, rows: &[Row], latches: usize) -> Option<Seen>
     requires { Fits rows.now latches × (at ≤ length text.now) }
-    ensures { Sees text.now h at rows.now latches result }
+    ensures { Sees text.now h at (flattened rows.now) latches result }
 {
     let outputs = Singles {
         at,

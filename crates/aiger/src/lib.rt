@@ -17,13 +17,13 @@ ghost use Rattle.stores.specs.Lists.{lists};
 ghost use Rattle.aiger.specs.Text.{first_edition, newer_edition};
 ghost use Rattle.base.specs.Numbers.{code_of};
 ghost use Rattle.aiger.specs.Promise.{Imports, report_of};
-ghost use Rattle.aiger.specs.Inner.{newer_in, Small, too_few, header_refusal, FaultOf, Limits, Sized, Held, wrong_rows, short, last_refusal, Enters, Judges};
-
-use base::{Fault, Refusal};
+ghost use Rattle.aiger.specs.Inner.{flattened, newer_in, Small, too_few, header_refusal, FaultOf, Limits, Sized, Held, wrong_rows, short, last_refusal, Enters, Judges};
 
 use again::{Singles, see, wrong_start};
+use base::{Fault, Refusal};
 use clauses::{enter_bad, enter_start, enter_step, fixed_starts};
 use find::{all_known, defined_twice, loop_free};
+use part::Row;
 use read::{Edition, Header, Reading, read};
 use system::Clause;
 
@@ -37,8 +37,14 @@ pub struct Imported {
     pub bad: usize,
 }
 
-// Numbers of the most rows: 32 latches and 64 inputs and gates.
-const ROWS: usize = 288;
+// The most rows: 32 latches and 64 inputs and gates.
+const ROWS: usize = 96;
+
+const EMPTY: Row = Row {
+    literal: 0,
+    second: 0,
+    third: 0,
+};
 
 // A refusal that a start value is not the reason of: the header's, which is line 1, or no line's.
 fn fault_of(refusal: Refusal) -> Fault
@@ -86,13 +92,13 @@ fn too_short(h: Header, first: usize, start: usize, step: usize, bad: usize) -> 
 // Refusals from 26 on: 26, 32, and of the system's own the only one that can come, a list that is too long.
 fn last_refusal(
     h: Header,
-    latches: &[u64],
+    latches: &[Row],
     start: usize,
     step: usize,
     bad: usize,
 ) -> Result<(), Refusal>
-    requires { Small h × Limits h × (length latches.now ≤ 96) }
-    ensures { code_of result ≡ last_refusal h latches.now start step bad }
+    requires { Small h × Limits h × (length latches.now ≤ 32) }
+    ensures { code_of result ≡ last_refusal h (flattened latches.now) start step bad }
 {
     if h.outputs == 0 && h.bads == 0 {
         return Err(Refusal::Watched);
@@ -110,7 +116,7 @@ fn last_refusal(
 fn enter(
     text: &[u8],
     c: Singles,
-    rows: &[u64],
+    rows: &[Row],
     h: Header,
     watched: Clause,
     start: &mut [u64],
@@ -118,11 +124,11 @@ fn enter(
     bad: &mut [u64],
 ) -> Imported
     requires { Sized h rows.now × (c.at ≤ length text.now) × (c.count ≤ 4096) }
-    ensures { Enters text.now c rows.now h watched (lists start.old step.old bad.old)
+    ensures { Enters text.now c (flattened rows.now) h watched (lists start.old step.old bad.old)
         result (lists start.new step.new bad.new) }
 {
-    let gates = &rows[3 * (h.latches + h.inputs) as usize..];
-    let latches = &rows[..3 * h.latches as usize];
+    let gates = &rows[(h.latches + h.inputs) as usize..];
+    let latches = &rows[..h.latches as usize];
     let i = enter_start(latches, start);
     let t = enter_step(text, c, rows, latches, gates, step);
     let b = enter_bad(text, c, rows, h.latches as usize, gates, watched, bad);
@@ -136,12 +142,12 @@ fn enter(
 }
 
 // Refusal 24: a variable is defined twice, or used by a latch or a gate and not defined.
-fn wrong_rows(rows: &[u64], h: Header) -> bool
+fn wrong_rows(rows: &[Row], h: Header) -> bool
     requires { Sized h rows.now }
-    ensures { result ≡ wrong_rows rows.now h }
+    ensures { result ≡ wrong_rows (flattened rows.now) h }
 {
-    let gates = &rows[3 * (h.latches + h.inputs) as usize..];
-    let latches = &rows[..3 * h.latches as usize];
+    let gates = &rows[(h.latches + h.inputs) as usize..];
+    let latches = &rows[..h.latches as usize];
     defined_twice(rows) || (!all_known(rows, latches) || !all_known(rows, gates))
 }
 
@@ -149,7 +155,7 @@ fn wrong_rows(rows: &[u64], h: Header) -> bool
 fn judge(
     text: &[u8],
     r: Reading,
-    rows: &[u64],
+    rows: &[Row],
     start: &mut [u64],
     step: &mut [u64],
     bad: &mut [u64],
@@ -165,10 +171,10 @@ fn judge(
     let Some(seen) = see(text, h, r.singles, rows, h.latches as usize) else {
         return Err(Refusal::Variables);
     };
-    if !loop_free(&rows[3 * (h.latches + h.inputs) as usize..]) {
+    if !loop_free(&rows[(h.latches + h.inputs) as usize..]) {
         return Err(Refusal::Loop);
     }
-    let latches = &rows[..3 * h.latches as usize];
+    let latches = &rows[..h.latches as usize];
     last_refusal(h, latches, start.len(), step.len(), bad.len())?;
     Ok(enter(
         text,
@@ -193,7 +199,7 @@ fn import_as(
     ensures { Imports (newer_in edition) text.now (lists start.old step.old bad.old)
         (report_of result) (lists start.new step.new bad.new) }
 {
-    let mut rows = [0u64; ROWS];
+    let mut rows = [EMPTY; ROWS];
     let r = read(edition, text, &mut rows)?;
     let h = r.header;
     if too_few(h) {
@@ -207,7 +213,7 @@ fn import_as(
         });
     }
     header_refusal(h).map_err(fault_of)?;
-    let count = 3 * (h.latches + h.inputs + h.gates) as usize;
+    let count = (h.latches + h.inputs + h.gates) as usize;
     judge(text, r, &rows[..count], start, step, bad).map_err(fault_of)
 }
 

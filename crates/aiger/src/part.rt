@@ -1,7 +1,6 @@
 // Lines of one form, one after the other: each gives a row of three numbers, which are written into a lent store as far as it reaches.
-ghost use Rattle.std.specs.Prelude.{[], ◌∷◌, ◌≡◌, ◌+◌, ◌≤◌, ◌<◌, ◌^◌, length};
-ghost use Rattle.text.specs.Writing.{Writes};
-ghost use Rattle.aiger.specs.Inner.{count_fits, Fine, row_list, ReadsLine, TakesLine, wrong_form, Begins, Takes};
+ghost use Rattle.std.specs.Prelude.{◌≡◌, ◌+◌, ◌≤◌, ◌<◌, ◌^◌, length};
+ghost use Rattle.aiger.specs.Inner.{count_fits, Fine, PutsRow, ReadsLine, TakesLine, wrong_form, Begins, Takes};
 
 use super::numbers::numbers;
 use base::{Fault, Refusal};
@@ -92,25 +91,13 @@ pub(super) fn wrong_form(line: usize) -> Fault
     }
 }
 
-// One number at this index, if the store reaches so far.
-pub(super) fn put(store: &mut [u64], at: usize, x: u64) -> usize
-    requires { at < 2 ^ 63 }
-    ensures { Writes at (x ∷ []) store.old result store.new }
+// A row at this index, if the store reaches so far.
+fn put_row(rows: &mut [Row], at: usize, row: Row)
+    ensures { PutsRow at row rows.old rows.new }
 {
-    if at < store.len() {
-        store[at] = x;
+    if at < rows.len() {
+        rows[at] = row;
     }
-    at + 1
-}
-
-// A row of three.
-fn put_row(store: &mut [u64], at: usize, row: Row) -> usize
-    requires { at < 2 ^ 62 }
-    ensures { Writes at (row_list row) store.old result store.new }
-{
-    let next = put(store, at, row.literal);
-    let next = put(store, next, row.second);
-    put(store, next, row.third)
 }
 
 // The line at this index; where the text has ended it is empty, and so no numbers.
@@ -134,7 +121,7 @@ pub(super) fn take_part(
     text: &[u8],
     from: usize,
     lines: Lines,
-    rows: &mut [u64],
+    rows: &mut [Row],
 ) -> Result<usize, Fault>
     requires { Begins text.now from lines }
     ensures { Takes text.now lines from rows.old result rows.new }
@@ -145,7 +132,7 @@ pub(super) fn take_part(
         if !lines.form.takes(line) {
             return Err(wrong_form(lines.first + k as usize));
         }
-        put_row(rows, lines.row + 3 * k as usize, line.row);
+        put_row(rows, lines.row + k as usize, line.row);
         at = line.end;
     }
     Ok(at)

@@ -6,10 +6,9 @@ ghost use Rattle.text.specs.Lines.{lines};
 ghost use Rattle.aiger.specs.Text.{most_counts, parts_of, behind_header, tells};
 ghost use Rattle.aiger.specs.Inner.{newer_in, HeadOf, Small, most_rows, ReadAs};
 
-use base::{Fault, Refusal};
-
 use super::numbers::numbers;
-use super::part::{Form, Lines, take_part, wrong_form};
+use super::part::{Form, Lines, Row, take_part, wrong_form};
+use base::{Fault, Refusal};
 
 // The first edition takes the fewer counts, and no start values.
 #[derive(Clone, Copy)]
@@ -84,7 +83,7 @@ fn head_of(edition: Edition, line: &[u8]) -> Option<Header>
 }
 
 // The parts behind the header, which ends at this index.
-fn read_parts(text: &[u8], at: usize, h: Header, rows: &mut [u64]) -> Result<Reading, Fault>
+fn read_parts(text: &[u8], at: usize, h: Header, rows: &mut [Row]) -> Result<Reading, Fault>
     requires { Small h × (at ≤ length text.now) × (length rows.old ≤ most_rows) }
     ensures { ReadAs text.now (parts_of h (lines (drop at text.now))) rows.old result rows.new }
 {
@@ -94,12 +93,11 @@ fn read_parts(text: &[u8], at: usize, h: Header, rows: &mut [u64]) -> Result<Rea
         defines: true,
         most: 2 * h.m + 1,
     };
-    let front = 3 * h.latches as usize;
     let inputs = Lines {
         form,
         count: h.inputs,
         first: 2,
-        row: front,
+        row: h.latches as usize,
     };
     let latches_at = take_part(text, at, inputs, rows)?;
     let latches = Lines {
@@ -127,7 +125,7 @@ fn read_parts(text: &[u8], at: usize, h: Header, rows: &mut [u64]) -> Result<Rea
         form: Form { width: 3, ..form },
         count: h.gates,
         first: singles.behind(),
-        row: front + 3 * h.inputs as usize,
+        row: (h.latches + h.inputs) as usize,
     };
     take_part(text, gates_at, gates, rows)?;
     Ok(Reading {
@@ -138,7 +136,7 @@ fn read_parts(text: &[u8], at: usize, h: Header, rows: &mut [u64]) -> Result<Rea
 }
 
 // The lines behind a header that asks for nothing but safety.
-fn read_behind(text: &[u8], at: usize, h: Header, rows: &mut [u64]) -> Result<Reading, Fault>
+fn read_behind(text: &[u8], at: usize, h: Header, rows: &mut [Row]) -> Result<Reading, Fault>
     requires { Small h × (at ≤ length text.now) × (length rows.old ≤ most_rows) }
     ensures { ReadAs text.now (behind_header h (lines (drop at text.now))) rows.old result rows.new }
 {
@@ -152,7 +150,7 @@ fn read_behind(text: &[u8], at: usize, h: Header, rows: &mut [u64]) -> Result<Re
 }
 
 // The text: its first line at fault, or what it says.
-pub(super) fn read(edition: Edition, text: &[u8], rows: &mut [u64]) -> Result<Reading, Fault>
+pub(super) fn read(edition: Edition, text: &[u8], rows: &mut [Row]) -> Result<Reading, Fault>
     requires { length rows.old ≤ most_rows }
     ensures { ReadAs text.now (tells (newer_in edition) text.now) rows.old result rows.new }
 {

@@ -3,12 +3,13 @@ use mathlib.Core.Path.{◌≡◌, refl, sym, ◌∙◌}
 use Prim.Native.Nat.{◌+◌}
 use native.Mathlib.Omega.{arith}
 use Rattle.base.specs.declared.Refusal.TheVariants.{StartValue}
+use lib.ListN.{replicate}
 use lib.Seq.{length-take-le}
 use Rattle.std.proofs.lemmas.Result.{err_from_is_err_and}
 use Rattle.base.specs.Numbers.{number_of}
 use Rattle.base.proofs.Refusals.{number_not_none}
 use Rattle.aiger.specs.Promise.{result_of}
-use Rattle.aiger.specs.Inner.{header_refusal}
+use Rattle.aiger.specs.Inner.{no_row, most_rows, header_refusal}
 use Rattle.aiger.proofs.Heading.{header_limits, number_21, number_28, header_number, refused, faulted, header_fault, header_other, line_other, header_fine, judged}
 use Rattle.aiger.proofs.Keeping.{kept_held}
 use Rattle.aiger.proofs.Meaning.{imports}
@@ -78,11 +79,6 @@ overflow_add-count-2 c =
     let small = (c.in_ok-r.ensures.right _ refl).counted.small in
     omega (arith, small.inputs, small.latches, small.gates)
 
-pub overflow_mul-count : goal.overflow_mul-count
-overflow_mul-count c =
-    let small = (c.in_ok-r.ensures.right _ refl).counted.small in
-    omega (arith, small.inputs, small.latches, small.gates)
-
 pub slice_bounds-rows-end : goal.slice_bounds-rows-end
 slice_bounds-rows-end c =
     let fine = sym c.header_refusal.ensures ∙ header_fine c.header_refusal.result _ _ refl c.in_ok-map_err.ensures.cases in
@@ -99,7 +95,7 @@ judge-requires c =
     let kept = c.in_ok-r.ensures.right _ refl in
     let right = c.in_default.ensures.right refl c.in_ok-r.r.header kept.latches kept.counted.latches_again in
     let fine = sym c.header_refusal.ensures ∙ header_fine c.header_refusal.result _ _ refl c.in_ok-map_err.ensures.cases in
-    kept_held _ _ _ _ _ kept refl (sym c.too_few.ensures ∙ c.if-too_few.false) right fine
+    kept_held _ _ (replicate most_rows no_row) _ _ kept refl (sym c.too_few.ensures ∙ c.if-too_few.false) right fine
 
 pub returns : goal.returns
 unfolding result_of kept_held
@@ -107,6 +103,6 @@ returns c =
     let kept = c.in_ok-r.ensures.right _ refl in
     let right = c.in_default.ensures.right refl c.in_ok-r.r.header kept.latches kept.counted.latches_again in
     let fine = sym c.header_refusal.ensures ∙ header_fine c.header_refusal.result _ _ refl c.in_ok-map_err.ensures.cases in
-    let held = kept_held _ _ _ _ _ kept refl (sym c.too_few.ensures ∙ c.if-too_few.false)
+    let held = kept_held _ _ (replicate most_rows no_row) _ _ kept refl (sym c.too_few.ensures ∙ c.if-too_few.false)
     right fine in
     imports _ _ _ _ _ (rw kept.says (judged _ _ _ c.judge.result _ (c.judge.ensures held) _ c.map_err-2.ensures.cases))

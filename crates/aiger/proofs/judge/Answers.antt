@@ -4,7 +4,7 @@ use mathlib.Core.Bool.{Bool, true, false, not, ◌||◌}
 use mathlib.Core.Path.{◌≡◌, refl, sym, ◌∙◌}
 use native.Mathlib.Omega.{arith}
 use Rattle.std.proofs.lemmas.Result.{err_from_is_err_and}
-use Rattle.aiger.proofs.Slices.{fits, few_gates, gates_threes, many_latches}
+use Rattle.aiger.proofs.Slices.{fits, few_gates, gates_within, many_latches}
 use Rattle.aiger.proofs.Judging.{held_sized, held_loops, number_24, number_25, number_last, last_few, last_room, last_none, last_found, last_other}
 use Rattle.aiger.proofs.Listing.{enters_system}
 use Rattle.aiger.proofs.judge.Goals as goal
@@ -38,7 +38,7 @@ returns-in_default c h = (
 )
 
 pub loop_free-requires : goal.loop_free-requires
-loop_free-requires c = (gates_threes _ _ (held_sized c.requires), few_gates _ _ (held_sized c.requires))
+loop_free-requires c = few_gates _ _ (held_sized c.requires)
 
 pub returns-then-not-loop_free : goal.returns-then-not-loop_free
 returns-then-not-loop_free c h =
@@ -48,6 +48,15 @@ returns-then-not-loop_free c h =
       λ e. omega arith,
       refl,
     )
+
+pub slice_bounds-loop_free-start : goal.slice_bounds-loop_free-start
+slice_bounds-loop_free-start c = gates_within _ _ (held_sized c.requires)
+
+pub slice_bounds-loop_free-count : goal.slice_bounds-loop_free-count
+slice_bounds-loop_free-count c = gates_within _ _ (held_sized c.requires)
+
+pub slice_bounds-latches-end : goal.slice_bounds-latches-end
+slice_bounds-latches-end c = sym (many_latches _ _ (held_sized c.requires))
 
 pub last_refusal-requires : goal.last_refusal-requires
 last_refusal-requires c =
