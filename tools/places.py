@@ -56,6 +56,23 @@ def functions(text):
         yield m.group(1), text[: m.start()].count("\n") + 1, params, text[brace.end() : end - 1]
 
 
+def form(body):
+    """A body with its names by the order in which they come, and its types, numbers and constants alike."""
+    names = {}
+    words = re.findall(r"[A-Za-z_]\w*|\d[\d_]*|\S", body)
+    shape = []
+    for k, word in enumerate(words):
+        if re.fullmatch(r"\d[\d_]*|[A-Z][A-Z_\d]+", word):
+            shape.append("K")
+        elif re.fullmatch(r"u8|u32|u64|usize", word):
+            shape.append("N")
+        elif re.fullmatch(r"if|else|while|for|in|let|mut|return|match|loop|true|false|as|break", word) or not re.match(r"[A-Za-z_]", word):
+            shape.append(word)
+        else:
+            shape.append(names.setdefault(word, f"n{len(names)}"))
+    return tuple(shape)
+
+
 def places(code, proofs):
     found = {k: [] for k in KINDS}
     bodies = collections.defaultdict(list)
@@ -79,8 +96,8 @@ def places(code, proofs):
                 found[3].append(f"{name}:{text[: loop.start()].count(chr(10)) + 1}: while {test}")
         for fn, line, params, body in functions(text):
             here = f"{name}:{line}: {fn}"
-            shape = re.sub(r"\bu(8|32|64)\b|\busize\b", "N", re.sub(r"\b\d[\d_]*\b|\b[A-Z][A-Z_]+\b", "K", re.sub(r"\s+", " ", body)))
-            if 60 < len(shape):
+            shape = form(body)
+            if 14 < len(shape):
                 bodies[shape].append(here)
             for size in (3, 4, 5):
                 for k in range(len(params) - size + 1):

@@ -1,16 +1,15 @@
 // The clauses of a circuit, written into lent stores one behind the other, as far as these reach. A literal comes as its variable and a sign, 1 if it
 // is inverted. The first rows are the latches', so the index of a variable's row says where it stands.
-ghost use Rattle.std.specs.Prelude.{[], ◌∷◌, ◌≡◌, ◌+◌, ◌*◌, ◌/◌, ◌≤◌, ◌<◌, ◌^◌, length};
+ghost use Rattle.std.specs.Prelude.{[], ◌∷◌, ◌≡◌, ◌+◌, ◌*◌, ◌/◌, ◌≤◌, ◌<◌, ◌^◌, length, count_by};
 ghost use Rattle.text.specs.Writing.{Writes};
 ghost use Rattle.circuit.specs.Import.{here, with_place, empty, mark, start_clauses, latch_clauses, gate_clauses, flat};
 ghost use Rattle.aiger.specs.Text.{latches_of, gates_of};
-ghost use Rattle.aiger.specs.Inner.{place_at, place_by, starting_at, latch_of, gate_of, Fits, start_list, Entered};
+ghost use Rattle.aiger.specs.Inner.{flattened, place_at, place_by, starting_at, latch_of, gate_of, Fits, start_list, is_fixed, Entered};
 ghost use Rattle.aiger.specs.Inner.{PutsConstraints, EntersStep, EntersBad};
 
 use super::again::Singles;
 use super::find::find;
-use super::numbers::numbers;
-use super::part::put;
+use super::part::{Row, read_line};
 use masks::Mask;
 use system::Clause;
 
@@ -50,31 +49,41 @@ fn with_row(m: Mask, k: usize, latches: usize) -> Mask
 }
 
 // A literal more in a clause. A variable without a row is false: its literal is dropped, and the inverted one makes the clause always true.
-pub(super) fn with_literal(rows: &[u64], latches: usize, m: Clause, v: u64, sign: u64) -> Clause
+pub(super) fn with_literal(rows: &[Row], latches: usize, m: Clause, v: u64, sign: u64) -> Clause
     requires { Fits rows.now latches }
-    ensures { result ≡ mark (place_by rows.now latches v) sign m }
+    ensures { result ≡ mark (place_by (flattened rows.now) latches v) sign m }
 {
     let Clause { ones, zeros } = m;
-    let k = find(rows, v);
-    if k < rows.len() / 3 {
+    let Some(k) = find(rows, v) else {
         if sign == 0 {
-            return Clause {
-                ones: with_row(ones, k, latches),
-                zeros,
-            };
+            return m;
         }
         return Clause {
-            ones,
-            zeros: with_row(zeros, k, latches),
+            ones: with_bit(ones, 0),
+            zeros: with_bit(zeros, 0),
+        };
+    };
+    if sign == 0 {
+        return Clause {
+            ones: with_row(ones, k, latches),
+            zeros,
         };
     }
-    if sign == 0 {
-        return Clause { ones, zeros };
-    }
     Clause {
-        ones: with_bit(ones, 0),
-        zeros: with_bit(zeros, 0),
+        ones,
+        zeros: with_row(zeros, k, latches),
     }
+}
+
+// One number at this index, if the store reaches so far.
+fn put(store: &mut [u64], at: usize, x: u64) -> usize
+    requires { at < 2 ^ 63 }
+    ensures { Writes at (x ∷ []) store.old result store.new }
+{
+    if at < store.len() {
+        store[at] = x;
+    }
+    at + 1
 }
 
 // A clause's four masks.
@@ -113,40 +122,27 @@ fn put_first(k: usize, start: u64, store: &mut [u64], at: usize) -> usize
 }
 
 // Start: every latch has its start value.
-fn put_start(latches: &[u64], store: &mut [u64]) -> usize
-    requires { length latches.now ≤ 96 }
-    ensures { Writes 0 (flat (start_clauses 0 (latches_of latches.now))) store.old result store.new }
+fn put_start(latches: &[Row], store: &mut [u64]) -> usize
+    requires { length latches.now ≤ 32 }
+    ensures { Writes 0 (flat (start_clauses 0 (latches_of (flattened latches.now)))) store.old result store.new }
 {
     let mut at = 0;
-    let mut k = 0;
-    let mut i = 0;
-    while i + 2 < latches.len() {
-        at = put_first(k, latches[i + 2], store, at);
-        k += 1;
-        i += 3;
+    for (k, latch) in latches.iter().enumerate() {
+        at = put_first(k, latch.third, store, at);
     }
     at
 }
 
 // How many latches have a fixed start value.
-pub(super) fn fixed_starts(latches: &[u64]) -> usize
-    requires { length latches.now ≤ 96 }
-    ensures { 4 * result ≡ length (start_list latches.now) }
+pub(super) fn fixed_starts(latches: &[Row]) -> usize
+    ensures { result ≡ count_by is_fixed latches.now }
 {
-    let mut count = 0;
-    let mut i = 0;
-    while i + 2 < latches.len() {
-        if latches[i + 2] <= 1 {
-            count += 1;
-        }
-        i += 3;
-    }
-    count
+    latches.iter().filter(|latch| latch.third <= 1).count()
 }
 
 // The two clauses of latch k: its bit one step later equals the literal.
 fn put_latch(
-    rows: &[u64],
+    rows: &[Row],
     latches: usize,
     k: usize,
     next: u64,
@@ -154,7 +150,7 @@ fn put_latch(
     at: usize,
 ) -> usize
     requires { Fits rows.now latches × (k < 32) × (at < 2 ^ 32) }
-    ensures { Writes at (flat (latch_clauses (place_by rows.now latches) k (latch_of next ∷ []))) store.old result store.new }
+    ensures { Writes at (flat (latch_clauses (place_by (flattened rows.now) latches) k (latch_of next ∷ []))) store.old result store.new }
 {
     let Clause { ones, zeros } = with_literal(rows, latches, no_literal(), next / 2, 1 - next % 2);
     let m = Clause {
@@ -171,35 +167,25 @@ fn put_latch(
 }
 
 // Step: two clauses a latch.
-fn put_latches(rows: &[u64], latches: &[u64], store: &mut [u64]) -> usize
-    requires { Fits rows.now (length latches.now / 3) }
-    ensures { Writes 0 (flat (latch_clauses (place_by rows.now (length latches.now / 3)) 0 (latches_of latches.now))) store.old result store.new }
+fn put_latches(rows: &[Row], latches: &[Row], store: &mut [u64]) -> usize
+    requires { Fits rows.now (length latches.now) }
+    ensures { Writes 0 (flat (latch_clauses (place_by (flattened rows.now) (length latches.now)) 0 (latches_of (flattened latches.now)))) store.old result store.new }
 {
-    let count = latches.len() / 3;
     let mut at = 0;
-    let mut k = 0;
-    let mut i = 0;
-    while i + 2 < latches.len() {
-        at = put_latch(rows, count, k, latches[i + 1], store, at);
-        k += 1;
-        i += 3;
+    for (k, latch) in latches.iter().enumerate() {
+        at = put_latch(rows, latches.len(), k, latch.second, store, at);
     }
     at
 }
 
 // The three clauses of a gate.
-fn put_gate(
-    rows: &[u64],
-    latches: usize,
-    out: u64,
-    left: u64,
-    right: u64,
-    store: &mut [u64],
-    at: usize,
-) -> usize
+fn put_gate(rows: &[Row], latches: usize, gate: Row, store: &mut [u64], at: usize) -> usize
     requires { Fits rows.now latches × (at < 2 ^ 32) }
-    ensures { Writes at (flat (gate_clauses (place_by rows.now latches) (gate_of out left right ∷ []))) store.old result store.new }
+    ensures { Writes at (flat (gate_clauses (place_by (flattened rows.now) latches) (gate_of gate.literal gate.second gate.third ∷ []))) store.old result store.new }
 {
+    let out = gate.literal;
+    let left = gate.second;
+    let right = gate.third;
     let not_out = with_literal(rows, latches, no_literal(), out / 2, 1);
     let m = with_literal(rows, latches, not_out, left / 2, left % 2);
     let at = put_clause(store, at, m);
@@ -212,23 +198,13 @@ fn put_gate(
 }
 
 // Three clauses a gate.
-fn put_gates(rows: &[u64], latches: usize, gates: &[u64], store: &mut [u64], from: usize) -> usize
-    requires { Fits rows.now latches × (length gates.now ≤ 192) × (from < 2 ^ 16) }
-    ensures { Writes from (flat (gate_clauses (place_by rows.now latches) (gates_of gates.now))) store.old result store.new }
+fn put_gates(rows: &[Row], latches: usize, gates: &[Row], store: &mut [u64], from: usize) -> usize
+    requires { Fits rows.now latches × (length gates.now ≤ 64) × (from < 2 ^ 16) }
+    ensures { Writes from (flat (gate_clauses (place_by (flattened rows.now) latches) (gates_of (flattened gates.now)))) store.old result store.new }
 {
     let mut at = from;
-    let mut i = 0;
-    while i + 2 < gates.len() {
-        at = put_gate(
-            rows,
-            latches,
-            gates[i],
-            gates[i + 1],
-            gates[i + 2],
-            store,
-            at,
-        );
-        i += 3;
+    for gate in gates {
+        at = put_gate(rows, latches, *gate, store, at);
     }
     at
 }
@@ -237,34 +213,30 @@ fn put_gates(rows: &[u64], latches: usize, gates: &[u64], store: &mut [u64], fro
 fn put_constraints(
     text: &[u8],
     c: Singles,
-    rows: &[u64],
+    rows: &[Row],
     latches: usize,
     store: &mut [u64],
     from: usize,
 ) -> usize
     requires { Fits rows.now latches × (c.at ≤ length text.now) × (c.count ≤ 4096) × (from < 2 ^ 16) }
-    ensures { PutsConstraints text.now c (place_by rows.now latches) from store.old result store.new }
+    ensures { PutsConstraints text.now c (place_by (flattened rows.now) latches) from store.old result store.new }
 {
     let mut at = c.at;
-    let mut left = c.count;
-    let mut end = from;
-    while 0 < left {
-        let len = text::line_length(text, at);
-        let mut row = [0u64; 3];
-        numbers(&text[at..at + len], &mut row);
-        let l = row[0];
+    let mut next = from;
+    for _ in 0..c.count {
+        let line = read_line(text, at);
+        let l = line.row.literal;
         let m = with_literal(rows, latches, no_literal(), l / 2, l % 2);
-        end = put_clause(store, end, m);
-        at += len;
-        left -= 1;
+        next = put_clause(store, next, m);
+        at = line.end;
     }
-    end
+    next
 }
 
 // The list of start in front of its store, and zeros behind it; how many masks it has.
-pub(super) fn enter_start(latches: &[u64], store: &mut [u64]) -> usize
-    requires { length latches.now ≤ 96 }
-    ensures { Entered (start_list latches.now) store.old result store.new }
+pub(super) fn enter_start(latches: &[Row], store: &mut [u64]) -> usize
+    requires { length latches.now ≤ 32 }
+    ensures { Entered (start_list (flattened latches.now)) store.old result store.new }
 {
     let end = put_start(latches, store);
     stores::clear_behind(store, end);
@@ -275,15 +247,15 @@ pub(super) fn enter_start(latches: &[u64], store: &mut [u64]) -> usize
 pub(super) fn enter_step(
     text: &[u8],
     c: Singles,
-    rows: &[u64],
-    latches: &[u64],
-    gates: &[u64],
+    rows: &[Row],
+    latches: &[Row],
+    gates: &[Row],
     store: &mut [u64],
 ) -> usize
-    requires { Fits rows.now (length latches.now / 3) × (length gates.now ≤ 192) × (c.at ≤ length text.now) × (c.count ≤ 4096) }
-    ensures { EntersStep text.now c rows.now latches.now gates.now store.old result store.new }
+    requires { Fits rows.now (length latches.now) × (length gates.now ≤ 64) × (c.at ≤ length text.now) × (c.count ≤ 4096) }
+    ensures { EntersStep text.now c (flattened rows.now) (flattened latches.now) (flattened gates.now) store.old result store.new }
 {
-    let count = latches.len() / 3;
+    let count = latches.len();
     let end = put_latches(rows, latches, store);
     let end = put_gates(rows, count, gates, store, end);
     let end = put_constraints(text, c, rows, count, store, end);
@@ -295,14 +267,14 @@ pub(super) fn enter_step(
 pub(super) fn enter_bad(
     text: &[u8],
     c: Singles,
-    rows: &[u64],
+    rows: &[Row],
     latches: usize,
-    gates: &[u64],
+    gates: &[Row],
     watched: Clause,
     store: &mut [u64],
 ) -> usize
-    requires { Fits rows.now latches × (length gates.now ≤ 192) × (c.at ≤ length text.now) × (c.count ≤ 4096) }
-    ensures { EntersBad text.now c rows.now latches gates.now watched store.old result store.new }
+    requires { Fits rows.now latches × (length gates.now ≤ 64) × (c.at ≤ length text.now) × (c.count ≤ 4096) }
+    ensures { EntersBad text.now c (flattened rows.now) latches (flattened gates.now) watched store.old result store.new }
 {
     let end = put_clause(store, 0, watched);
     let end = put_gates(rows, latches, gates, store, end);

@@ -1,8 +1,8 @@
--- `part::put` meets its contract: within the store one place is set, and past its end nothing is. Assumes nothing.
+-- `clauses::put` meets its contract: within the store one place is set, and past its end nothing is. Assumes nothing.
 use mathlib.Core.Path.{refl, sym, ◌∙◌}
 use Rattle.text.proofs.Laying.{laid_one, laid_past}
-use Rattle.aiger.proofs.part.put.Goals as goal
-use Rattle.aiger.proofs.part.put.Goals.{then-at-store, else-at-store}
+use Rattle.aiger.proofs.clauses.put.Goals as goal
+use Rattle.aiger.proofs.clauses.put.Goals.{then-at-store, else-at-store}
 
 pub returns : goal.returns
 returns c =
