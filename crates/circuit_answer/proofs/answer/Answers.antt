@@ -9,23 +9,23 @@ use Rattle.circuit_answer.proofs.answer.Goals as goal
 pub slice_bounds-start-end : goal.slice_bounds-start-end
 slice_bounds-start-end c = (read_fronts _ _ _ _ c.in-Ok.ensures zero_rooms).start
 
-pub slice_bounds-solve-end : goal.slice_bounds-solve-end
-slice_bounds-solve-end c = sym (length-take-le _ _ (read_fronts _ _ _ _ c.in-Ok.ensures zero_rooms).start)
+pub slice_bounds-system-end : goal.slice_bounds-system-end
+slice_bounds-system-end c = sym (length-take-le _ _ (read_fronts _ _ _ _ c.in-Ok.ensures zero_rooms).start)
 
 pub slice_bounds-step-end : goal.slice_bounds-step-end
 slice_bounds-step-end c = (read_fronts _ _ _ _ c.in-Ok.ensures zero_rooms).step
 
-pub slice_bounds-solve-end-in-Ok : goal.slice_bounds-solve-end-in-Ok
-slice_bounds-solve-end-in-Ok c = sym (length-take-le _ _ (read_fronts _ _ _ _ c.in-Ok.ensures zero_rooms).step)
+pub slice_bounds-system-end-2 : goal.slice_bounds-system-end-2
+slice_bounds-system-end-2 c = sym (length-take-le _ _ (read_fronts _ _ _ _ c.in-Ok.ensures zero_rooms).step)
 
 pub slice_bounds-bad-end : goal.slice_bounds-bad-end
 slice_bounds-bad-end c = (read_fronts _ _ _ _ c.in-Ok.ensures zero_rooms).bad
 
-pub slice_bounds-solve-end-in-Ok-2 : goal.slice_bounds-solve-end-in-Ok-2
-slice_bounds-solve-end-in-Ok-2 c = sym (length-take-le _ _ (read_fronts _ _ _ _ c.in-Ok.ensures zero_rooms).bad)
+pub slice_bounds-system-end-3 : goal.slice_bounds-system-end-3
+slice_bounds-system-end-3 c = sym (length-take-le _ _ (read_fronts _ _ _ _ c.in-Ok.ensures zero_rooms).bad)
 
-pub returns-in-Ok : goal.returns-in-Ok
-returns-in-Ok c = answers_circuit _ _ _ _ c.in-Ok.ensures zero_rooms refl c.solve.ensures
+pub returns : goal.returns
+returns c = answers_circuit _ _ _ _ c.in-Ok.ensures zero_rooms refl c.solve.ensures
 
 pub returns-in-Err : goal.returns-in-Err
 returns-in-Err c =
