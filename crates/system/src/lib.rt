@@ -110,36 +110,53 @@ fn reaches(k: u32, x: u64) -> bool
     k < 64 && masks::power(k) <= x
 }
 
-// Refusal 3, for one mask of the pair.
-fn wrong_mask(low: u32, high: u32, x: u64) -> bool
-    requires { (low ≤ 32) × (high ≤ 32) }
-    ensures { result ≡ wrong_mask low high x }
-{
-    reaches(low, x % HALF) || reaches(high, x / HALF)
+// What a list may use: bits below `low`, later ones below `high`, and wires below `wires`.
+#[derive(Clone, Copy)]
+struct Limits {
+    low: u32,
+    high: u32,
+    wires: u32,
+    ghost in_range: { (low ≤ 32) × (high ≤ 32) × (wires ≤ 64) },
 }
 
-// Refusal 3, for one clause.
-fn wrong_clause(low: u32, high: u32, wires: u32, a: u64, b: u64, c: u64, d: u64) -> bool
-    requires { (low ≤ 32) × (high ≤ 32) × (wires ≤ 64) }
-    ensures { result ≡ wrong_clause low high wires a b c d }
-{
-    wrong_mask(low, high, a)
-        || (wrong_mask(low, high, b) || (reaches(wires, c) || reaches(wires, d)))
-}
-
-// Refusal 3, for one list.
-fn wrong_bit(low: u32, high: u32, wires: u32, list: &[u64]) -> bool
-    requires { (low ≤ 32) × (high ≤ 32) × (wires ≤ 64) }
-    ensures { result ≡ wrong_bit low high wires list.now }
-{
-    let mut left = list;
-    while let [a, b, c, d, rest @ ..] = left {
-        if wrong_clause(low, high, wires, *a, *b, *c, *d) {
-            return true;
-        }
-        left = rest;
+impl Limits {
+    fn of(low: u32, high: u32, wires: u32) -> Limits
+        requires { (low ≤ 32) × (high ≤ 32) × (wires ≤ 64) }
+        ensures low { result.low ≡ low }
+        ensures high { result.high ≡ high }
+        ensures wires { result.wires ≡ wires }
+    {
+        Limits { low, high, wires }
     }
-    false
+
+    // Refusal 3, for one mask of the pair.
+    fn wrong_mask(self, x: u64) -> bool
+        ensures { result ≡ wrong_mask self.low self.high x }
+    {
+        reaches(self.low, x % HALF) || reaches(self.high, x / HALF)
+    }
+
+    // Refusal 3, for one clause.
+    fn wrong_clause(self, a: u64, b: u64, c: u64, d: u64) -> bool
+        ensures { result ≡ wrong_clause self.low self.high self.wires a b c d }
+    {
+        self.wrong_mask(a)
+            || (self.wrong_mask(b) || (reaches(self.wires, c) || reaches(self.wires, d)))
+    }
+
+    // Refusal 3, for one list.
+    fn wrong_bit(self, list: &[u64]) -> bool
+        ensures { result ≡ wrong_bit self.low self.high self.wires list.now }
+    {
+        let mut left = list;
+        while let [a, b, c, d, rest @ ..] = left {
+            if self.wrong_clause(*a, *b, *c, *d) {
+                return true;
+            }
+            left = rest;
+        }
+        false
+    }
 }
 
 // Refusal 3. Start uses the state's bits alone, bad no later bit.
@@ -147,7 +164,10 @@ fn wrong_bits(n: u32, w: u32, start: &[u64], step: &[u64], bad: &[u64]) -> bool
     requires { (n ≤ 32) × (w ≤ 64) }
     ensures { result ≡ wrong_bits n w start.now step.now bad.now }
 {
-    wrong_bit(n, 0, 0, start) || (wrong_bit(n, n, w, step) || wrong_bit(n, 0, w, bad))
+    let of_start = Limits::of(n, 0, 0);
+    let of_step = Limits::of(n, n, w);
+    let of_bad = Limits::of(n, 0, w);
+    of_start.wrong_bit(start) || (of_step.wrong_bit(step) || of_bad.wrong_bit(bad))
 }
 
 impl<'a> System<'a> {

@@ -1,7 +1,7 @@
--- `system::wrong_clause` meets its contract: each mask is tested in its turn, and the first that is wrong decides. Assumes nothing.
+-- `Limits::wrong_clause` meets its contract: each mask is tested in its turn, and the first that is wrong decides. Assumes nothing.
 use Rattle.system.specs.System.{wrong_clause}
 use Rattle.system.proofs.Refusals.{or_first, or_next, or_second, or_third}
-use Rattle.system.proofs.wrong_clause.Goals as goal
+use Rattle.system.proofs.Limits.wrong_clause.Goals as goal
 
 pub returns-then-wrong_mask : goal.returns-then-wrong_mask
 unfolding wrong_clause

@@ -1,7 +1,7 @@
--- `system::wrong_mask` meets its contract: the state's half decides, or the later one. Assumes nothing.
+-- `Limits::wrong_mask` meets its contract: the state's half decides, or the later one. Assumes nothing.
 use Rattle.system.specs.System.{wrong_mask}
 use Rattle.system.proofs.Refusals.{or_first, or_next}
-use Rattle.system.proofs.wrong_mask.Goals as goal
+use Rattle.system.proofs.Limits.wrong_mask.Goals as goal
 
 pub returns-then-reaches : goal.returns-then-reaches
 unfolding wrong_mask
