@@ -3,7 +3,7 @@
 use Rattle.std.specs.Prelude.{Result, Ok, Err, ℕ, ◌+◌, ◌≤◌, Bool, true, false, ◌&&◌, List, ◌++◌, ◌≡◌, ltb, leb, length, take, drop}
 use Rattle.base.specs.Refusals.{most_clause_lines}
 use Rattle.stores.specs.Lies.{Lies}
-use Rattle.text.specs.Lines.{lines, LineAt}
+use Rattle.text.specs.Lines.{lines}
 use Rattle.base.specs.Numbers.{number_of}
 use Rattle.base.specs.declared.Refusal.{Refusal}
 use Rattle.base.specs.declared.Refusal.TheVariants.{Room}
@@ -50,11 +50,6 @@ reading_of r l =
       step = take r.step l.step;
       bad = take r.bad l.bad;
     }
-
--- a line lies at index i, and the lists lie in the stores
-pub record Ready (text : List ℕ) (i len : ℕ) (r : Reading) (l : Lists) : Type 0 where
-  pub line : LineAt text i len
-  pub lie : Lie r l
 
 -- a clause more, with these counts of masks; refusal 12 as in the definition
 unfoldable pub one_more : Bool → ℕ → Reading → ℕ → ℕ → ℕ → Result Reading Refusal

@@ -2,11 +2,11 @@
 // a clause behind its list, or the end. Refused here: 12, clause line number 1,025 or no room; 13, count wrong; and what the line is refused with by
 // itself. Every function that takes stores requires that the lists lie in them with zeros behind, and leaves them so unless it refuses: after a
 // refusal nothing but the stores' lengths is promised, since the reader clears them.
-ghost use Rattle.std.specs.Prelude.{◌≡◌, Ok, take, drop};
+ghost use Rattle.std.specs.Prelude.{◌≡◌, Ok};
 ghost use Rattle.stores.specs.Lies.{Lies};
 ghost use Rattle.line.specs.Says.{Clause};
 ghost use Rattle.line.specs.Told.{number_of, said_of};
-ghost use Rattle.house.specs.Inner.{lists_of, Keeps, PutAs, Lie, Ready, one_more, Enters, Takes};
+ghost use Rattle.house.specs.Inner.{lists_of, Keeps, PutAs, Lie, one_more, Enters, Takes};
 
 use base::Refusal;
 use line::{Line, List, parse};
@@ -141,21 +141,12 @@ fn enter(
     }
 }
 
-// The line of `len` bytes at this index, parsed and entered.
-pub(super) fn take_line(
-    text: &[u8],
-    at: usize,
-    len: usize,
-    r: Reading,
-    into: &mut Lent,
-) -> Result<Reading, Refusal>
-    requires { Ready text.now at len r (lists_of into.old) }
-    ensures lists { Takes r (take len (drop at text.now))
-        (lists_of into.old)
-        result (lists_of into.new) }
+// A line, parsed and entered.
+pub(super) fn take_line(line: &[u8], r: Reading, into: &mut Lent) -> Result<Reading, Refusal>
+    requires { Lie r (lists_of into.old) }
+    ensures lists { Takes r line.now (lists_of into.old) result (lists_of into.new) }
     ensures kept { Keeps into.old into.new }
 {
-    let end = at + len;
-    let said = parse(&text[at..end], r.stage)?;
+    let said = parse(line, r.stage)?;
     enter(r, said, into)
 }

@@ -45,7 +45,7 @@ fn take_lines(text: &[u8], into: &mut Lent) -> Result<Reading, Fault>
     while r.at < text.len() {
         let at = r.at;
         r = r.next_line();
-        let taken = take_line(text, at, r.at - at, reading, into);
+        let taken = take_line(&text[at..r.at], reading, into);
         match taken {
             Ok(next) => {
                 reading = next;

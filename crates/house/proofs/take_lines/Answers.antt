@@ -6,7 +6,7 @@ use Rattle.text.specs.Lines.{line_length}
 use Rattle.text.proofs.Lines.{line_at}
 use borrow.Author.Rules.{rules}
 use Rattle.house.proofs.Entering.{same_refl}
-use Rattle.house.proofs.Taking.{stands_first, line_here, turned_on, turned_refused, ended, stopped, same_then}
+use Rattle.house.proofs.Taking.{stands_first, turned_on, turned_refused, ended, stopped, same_then}
 use Rattle.house.proofs.take_lines.Goals as goal
 use Rattle.house.proofs.take_lines.Goals.{After-next_line-r}
 
@@ -17,9 +17,10 @@ place c = rw (c.next_line-r.ensures, c.loop-r.invariant.text)
 pub loop-r-init : goal.loop-r-init
 loop-r-init c = record { text = rw c.new-r.ensures; kept = search rules; same = same_refl _; stands = rw c.new-r.ensures (stands_first _ _ c.requires) }
 
-pub take_line-taken-requires : goal.take_line-taken-requires
-take_line-taken-requires c =
-    record { line = line_here c.loop-r.invariant.stands c.loop-r-test.true (place (goal.at.take_line-taken-requires c).After-next_line-r); lie = c.loop-r.invariant.stands.lie }
+pub slice_bounds-take_line-end : goal.slice_bounds-take_line-end
+slice_bounds-take_line-end c =
+    let line = line_at c.args.text.now c.loop-r.r.at c.loop-r-test.true in
+    omega (arith, place c, line.within)
 
 pub returns-in-Err-clause-lists : goal.returns-in-Err-clause-lists
 returns-in-Err-clause-lists c =
