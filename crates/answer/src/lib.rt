@@ -12,6 +12,7 @@ use house::House;
 use system::System;
 
 // The byte of a digit.
+// Stays: the answer is capital digits in a lent buffer, byte by byte (`line_of`), and of the formats of std that for capital digits states no output.
 fn letter_of(d: u32) -> u8
     requires { d < 16 }
     ensures { result ≡ letter d }
@@ -122,6 +123,7 @@ fn put_gave_up(out: &mut [u8], number: u32, questions: u32) -> usize
 }
 
 // A refusal and its line.
+// Stays: it takes every number, as before, and a `Refusal` would ask more of its callers.
 pub fn put_refusal(out: &mut [u8], number: u32, line: usize) -> usize
     ensures { Writes 0 (refusal_line number line) out.old result out.new }
 {

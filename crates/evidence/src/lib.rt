@@ -68,6 +68,7 @@ fn start_free(start: &[u64], states: &[u64]) -> bool
     true
 }
 
+// Stays: that n is at most 32 is asked here and in two functions below; a question takes any `Free`, and one with that bound would ask more of callers.
 // The least bad state that is not listed. A state with no level beside it is excluded from every R(i) above R(0).
 fn bad_outside(free: Free, table: &[u64; TABLE], bad: &[u64], states: &[u64]) -> Option<u64>
     requires { free.n ≤ 32 }

@@ -20,6 +20,7 @@ pub(super) struct Lent<'a> {
 }
 
 // What was read so far: the stage, n, the count of clause lines, and each list's count of masks.
+// Stays: the stage is the number that `parse` takes, and a count stands beside each lent store, since there is no heap.
 #[derive(Clone, Copy)]
 pub(super) struct Reading {
     pub(super) stage: u32,

@@ -29,6 +29,7 @@ pub enum Line {
 }
 
 // The value of a digit, 16 if it is none.
+// Stays: the definition `digit` gives every byte a number, and a frame is read of bytes that were seen to be digits.
 fn digit_value(c: u8) -> u32
     ensures { result ≡ digit c }
 {
@@ -72,6 +73,7 @@ fn frame_length(line: &[u8]) -> Option<usize>
 }
 
 // The sum of a frame's bytes.
+// Stays: the count beside the line, here and in `number_at`: of a slice it would have to be shown that it is even and within the line, which `SumAt` says.
 fn sum_of(line: &[u8], count: usize) -> u32
     requires { SumAt line.now count }
     ensures { result ≡ sum (frame_at line.now 0 count) }
@@ -96,6 +98,7 @@ fn number_at(line: &[u8], at: usize, count: usize) -> u64
 }
 
 // Whether a kind is known and in its place.
+// Stays: a kind is the first byte of a line, any byte, and the definitions `in_place`, `width` and `length_for` speak of every one.
 fn in_place(stage: u32, kind: u32) -> bool
     ensures { result ≡ in_place stage kind }
 {
@@ -144,6 +147,7 @@ fn list_of(kind: u32) -> List
 }
 
 // What a line says behind a stage; every slice has its answer, with or without a line feed.
+// Stays: the stage is a number, since `parse` answers for every one; an enum would ask more of its callers.
 pub fn parse(line: &[u8], stage: u32) -> Result<Line, Refusal>
     ensures { said_of result ≡ says line.now stage }
 {

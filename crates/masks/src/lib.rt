@@ -51,6 +51,7 @@ pub fn without(a: Mask, b: Mask) -> Mask
 }
 
 // Whether two masks have the same positions.
+// Stays beside `==`: its promise is of masks as one number, and two must-fail edits are of it, `same_by_the_pair_alone` and `same_with_the_words_exchanged`.
 pub fn same(a: Mask, b: Mask) -> bool
     ensures { result ≡ eqb (word_of a) (word_of b) }
 {

@@ -14,6 +14,7 @@ struct Far {
     left: usize,
 }
 
+// Stays: clauses are read by index here, as the must-fail edit `reads_one_past_the_list` needs it.
 // Whether clause j uses no far wire and has the wire in its mask `at`: 2 for wanted 1, 3 for wanted 0.
 fn wants(list: &[u64], j: usize, at: usize, far: u64, wire: u64) -> bool
     requires { (4 * j + 3 < length list.now) × (at ≤ 3) }
