@@ -2,10 +2,11 @@
 // Each moves as the definition does, from where the search stands, c, whose phase it follows; the stores are the lent ones. Nothing is asked and nothing
 // refused here; each function requires that its indices lie within the stores, which the shape of a configuration gives.
 ghost use Rattle.std.specs.Prelude.{suc, ◌-◌, ◌<◌, ◌≡◌, length, get_or};
+ghost use Rattle.std.specs.declared.ops.ControlFlow.TheVariants.{Continue};
 ghost use Rattle.ic3.specs.Search as ic3;
 ghost use Rattle.ic3.specs.Shape.{Tidy};
 ghost use Rattle.call.specs.Call.{Stores, rounds, why_number};
-ghost use Rattle.search.specs.Lent.{SameSlices, stores_of, store_of, store_in, duties, why_of};
+ghost use Rattle.search.specs.Lent.{SameSlices, stores_of, store_of, store_in, duties, config, why_of};
 ghost use Rattle.search.specs.Inner.{Opens, Blocks, Judges, Enters, Tests, Moves, tested_from};
 
 use super::store::Lent;
@@ -69,21 +70,22 @@ pub(super) fn wide(k: u32) -> usize
 }
 
 impl Config {
+    // The search goes on at `phase`.
+    fn at(self, phase: Phase) -> Move
+        ensures { result ≡ Continue (config self.N self.count phase) }
+    {
+        Continue(Config { phase, ..self })
+    }
+
     // A duty for level k + 1 is settled: the duty above it again, or step 2 if it was the last.
     fn settled(self, k: u32) -> Move
         requires { k < self.N }
         ensures { (s : Stores) → Moves result s (ic3.go (ic3.settled self.N (store_of self.count s.states s.levels) k (duties self.N k s.path))) }
     {
         if k + 1 < self.N {
-            return Continue(Config {
-                phase: Phase::Settle(k + 1),
-                ..self
-            });
+            return self.at(Phase::Settle(k + 1));
         }
-        Continue(Config {
-            phase: Phase::Look,
-            ..self
-        })
+        self.at(Phase::Look)
     }
 }
 
@@ -98,10 +100,7 @@ impl Lent<'_> {
         if c.N == 0 {
             return Break(Verdict::Unsafe(1));
         }
-        Continue(Config {
-            phase: Phase::Settle(c.N - 1),
-            ..c
-        })
+        c.at(Phase::Settle(c.N - 1))
     }
 
     // Step 3, a state t of R(k) steps to the state of the duty for level k + 1.
@@ -115,10 +114,7 @@ impl Lent<'_> {
         if k == 0 {
             return Break(Verdict::Unsafe(wide(c.N) + 1));
         }
-        Continue(Config {
-            phase: Phase::Settle(k - 1),
-            ..c
-        })
+        c.at(Phase::Settle(k - 1))
     }
 
     // Step 3, no state of R(k) steps to s: it gets level k + 1.
@@ -143,10 +139,7 @@ impl Lent<'_> {
         if i < c.N {
             return Break(Verdict::Safe(i, c.count));
         }
-        Continue(Config {
-            phase: Phase::Look,
-            ..c
-        })
+        c.at(Phase::Look)
     }
 
     // Step 4 comes to level i: to its first entry, or, with no level left below N or no entry at this one, to step 5.
@@ -158,10 +151,7 @@ impl Lent<'_> {
             return self.judge(c);
         }
         if let Some(first) = self.next_at(c.count, 0, i) {
-            return Continue(Config {
-                phase: Phase::Raise(i, first),
-                ..c
-            });
+            return c.at(Phase::Raise(i, first));
         }
         self.judge(c)
     }
@@ -174,10 +164,7 @@ impl Lent<'_> {
             → Moves result (stores_of self.now) (tested_from c.N c.count i j self.now.states.now self.now.levels.now) }
     {
         if let Some(next) = self.next_at(c.count, j, i) {
-            return Continue(Config {
-                phase: Phase::Raise(i, next),
-                ..c
-            });
+            return c.at(Phase::Raise(i, next));
         }
         if self.sits_before(j, i) {
             return self.round(c, i + 1);

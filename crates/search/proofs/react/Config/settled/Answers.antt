@@ -4,7 +4,7 @@ use Rattle.search.proofs.Keeping.{settled_more, settled_last}
 use Rattle.search.proofs.react.Config.settled.Goals as goal
 
 pub returns-then-k-self : goal.returns-then-k-self
-returns-then-k-self c = λ s. settled_more _ _ _ s c.if-k-self.true
+returns-then-k-self c = λ s. rw c.at.ensures (settled_more _ _ _ s c.if-k-self.true)
 
 pub returns : goal.returns
-returns c = λ s. settled_last _ _ _ s c.if-k-self.false
+returns c = λ s. rw c.at-2.ensures (settled_last _ _ _ s c.if-k-self.false)

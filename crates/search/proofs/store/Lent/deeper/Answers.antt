@@ -13,4 +13,4 @@ returns-then-k-eq0-clause-moves c =
 pub returns-clause-moves : goal.returns-clause-moves
 returns-clause-moves c =
     let s = c.args.self.now in
-    rw c.wide.ensures (deeper_duty _ s.states.now s.levels.now s.path.now _ _ c.args.t c.if-k-eq0.false c.requires)
+    rw (c.wide.ensures, c.at.ensures) (deeper_duty _ s.states.now s.levels.now s.path.now _ _ c.args.t c.if-k-eq0.false c.requires)

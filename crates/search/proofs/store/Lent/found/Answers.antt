@@ -13,4 +13,4 @@ returns-then-c-eq0-clause-moves c =
 pub returns-clause-moves : goal.returns-clause-moves
 returns-clause-moves c =
     let s = c.args.self.now in
-    rw c.wide.ensures (found_duty _ s.states.now s.levels.now s.path.now _ c.args.s c.if-c-eq0.false c.requires)
+    rw (c.wide.ensures, c.at.ensures) (found_duty _ s.states.now s.levels.now s.path.now _ c.args.s c.if-c-eq0.false c.requires)

@@ -10,4 +10,4 @@ returns-then-i-c c = record { onward = sym (judge_safe _ _ _ _ _ c.gap-i.ensures
 
 pub returns : goal.returns
 returns c =
-    record { onward = sym (judge_again _ _ _ _ _ c.gap-i.ensures (omega arith) (omega arith)); bounded = tt }
+    rw c.at.ensures (record { onward = sym (judge_again _ _ _ _ _ c.gap-i.ensures (omega arith) (omega arith)); bounded = tt })

@@ -12,7 +12,7 @@ returns-then-i-c c = moves_to (sym (round_judged _ _ _ _ _ (omega arith))) c.jud
 pub returns-in-Some : goal.returns-in-Some
 returns-in-Some c =
     let w = c.in-Some.ensures in
-    record { onward = sym (round_raises _ _ _ _ _ (omega arith) _ w.1 w.0); bounded = w.1 }
+    rw c.at.ensures (record { onward = sym (round_raises _ _ _ _ _ (omega arith) _ w.1 w.0); bounded = w.1 })
 
 pub returns : goal.returns
 returns c =

@@ -1,7 +1,6 @@
 use mathlib.Core.Path.{◌≡◌}
 use native.Mathlib.Omega.{arith}
 use Rattle.search.proofs.Turns.{same_lengths, slices_again, running_go, running_stop, running_spent}
-use borrow.Author.Rules.{rules}
 use Rattle.search.proofs.turn.Tabled.all_turns.Goals as goal
 
 pub loop-before-preserved : goal.loop-before-preserved
