@@ -34,22 +34,20 @@ part_take k xs h = part_drop k 0 xs (omega arith)
 pub stores_same : {ss ss' ls ls' path path' : List ℕ} → ss ≡ ss' → ls ≡ ls' → path ≡ path' → stores ss ls path ≡ stores ss' ls' path'
 stores_same a l p = rw (a, l, p)
 
--- with `mid` for the states, keeping `front` of them and `len` of the path closes the verdict
-pub record Closable (s : Stores) (v : Verdict) (asked : ℕ) (mid : List ℕ) (front len : ℕ) (o : Outcome) : Type 0 where
-  pub same : length mid ≡ length s.states
-  pub finishes : Finishes front len (stores mid s.levels s.path)
-  pub closes : (after : Stores) → after ≡ leaves (stores mid s.levels s.path) (take front mid) (take len s.path)
-      → Closes s v asked o after
+-- from `mid` on, keeping `front` of the states and `len` of the path closes the verdict
+pub record Closable (s : Stores) (v : Verdict) (asked : ℕ) (mid : Stores) (front len : ℕ) (o : Outcome) : Type 0 where
+  pub finishes : Finishes front len mid
+  pub closes : (after : Stores) → after ≡ leaves mid (take front mid.states) (take len mid.path) → Closes s v asked o after
 
 module _ (s : Stores) (v : Verdict) (asked : ℕ) where
   -- safe: the states kept stand at the front of a store as long as before
   pub closes_safe : (i count front : ℕ) (mid : List ℕ) → v ≡ Safe i count → take front mid ≡ states (leb i) (store_of count s.states s.levels)
-      → front ≤ length mid → length mid ≡ length s.states → Closable s v asked mid front 0 (call.Safe front asked)
+      → front ≤ length mid → length mid ≡ length s.states
+      → Closable s v asked (stores mid s.levels s.path) front 0 (call.Safe front asked)
   unfolding ended leaves
   closes_safe i count front mid q k h m =
       let n = length-take-le front mid h in
       record {
-        same = m;
         finishes = record { states = h; path = omega arith };
         closes = λ after e. rw q
             (record {
@@ -59,12 +57,11 @@ module _ (s : Stores) (v : Verdict) (asked : ℕ) where
       }
 
   -- unsafe: the path stands at the front of its store
-  pub closes_unsafe : (k : ℕ) → v ≡ Unsafe k → k ≤ length s.path → Closable s v asked s.states 0 k (call.Unsafe k asked)
+  pub closes_unsafe : (k : ℕ) → v ≡ Unsafe k → k ≤ length s.path → Closable s v asked s 0 k (call.Unsafe k asked)
   unfolding ended leaves
   closes_unsafe k q h =
       let n = length-take-le k s.path h in
       record {
-        same = refl;
         finishes = record { states = omega arith; path = h };
         closes = λ after e. rw q
             (record {
@@ -75,11 +72,10 @@ module _ (s : Stores) (v : Verdict) (asked : ℕ) where
 
   -- given up, with a number of its own: nothing is left
   pub closes_given_up : (why : Why) (number : ℕ) → v ≡ GaveUp why → number ≡ why_number (why_of why)
-      → Closable s v asked s.states 0 0 (call.GaveUp number asked)
+      → Closable s v asked s 0 0 (call.GaveUp number asked)
   unfolding ended leaves
   closes_given_up why number q h =
       record {
-        same = refl;
         finishes = record { states = omega arith; path = omega arith };
         closes = λ after e. rw q (record { equation = rw (h, e); evidence_length = refl });
       }

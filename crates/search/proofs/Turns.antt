@@ -14,7 +14,8 @@ use Rattle.ic3.proofs.Shape.{next_keeps_shape}
 use Rattle.system.specs.System.{System, model}
 use Rattle.call.specs.Call.{Stores, rounds}
 use Rattle.call.proofs.Call.{Lengths}
-use Rattle.search.specs.Lent.{store_of, config, config_of}
+use Rattle.search.specs.declared.store.Lent.{Lent}
+use Rattle.search.specs.Lent.{SameSlices, stores_of, store_of, config, config_of}
 use Rattle.search.specs.Inner.{Asks, Raises, Lends, Ready, Moves, Ends}
 use Rattle.search.specs.declared.react.Verdict.{Verdict}
 use Rattle.search.specs.declared.react.Why.TheVariants.{Spent}
@@ -24,6 +25,22 @@ use Rattle.search.specs.declared.react.Phase.TheVariants.{Raise}
 use Rattle.search.specs.declared.react.Config.{Config}
 use Rattle.search.proofs.Rounds.{level_entry}
 use Rattle.search.proofs.Windows.{window_length}
+
+-- the same slices are as long as before
+pub same_lengths : {s s' : Lent} → SameSlices s s' → Lengths (stores_of s) (stores_of s')
+same_lengths w = record { states = w.states_length; levels = w.levels_length; path = w.path_length }
+
+-- and stay the same from step to step
+pub slices_again : {s s' s'' : Lent} → SameSlices s s' → SameSlices s' s'' → SameSlices s s''
+slices_again w v =
+    record {
+      states = v.states ∙ w.states;
+      levels = v.levels ∙ w.levels;
+      path = v.path ∙ w.path;
+      states_length = v.states_length ∙ w.states_length;
+      levels_length = v.levels_length ∙ w.levels_length;
+      path_length = v.path_length ∙ w.path_length;
+    }
 
 -- stores of the same lengths hold a search as well
 pub lends_kept : {n room : ℕ} {s s' : Stores} → Lends n room s → Lengths s s' → Lends n room s'

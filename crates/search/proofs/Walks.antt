@@ -15,7 +15,7 @@ use Rattle.std.proofs.lemmas.Grind.{get_or_default_zero}
 use Rattle.std.proofs.lemmas.List.Quantifiers.{position-Some}
 use Rattle.std.proofs.lemmas.List.Sums.{prefix_len_passes}
 use Rattle.base.proofs.Tests.{test}
-use Rattle.search.specs.Inner.{Absent, FirstAt}
+use Rattle.search.specs.Inner.{Absent, FirstAt, First}
 
 -- ---- as the library asks whether i stands among the first j
 module _ (xs : List ℕ) (j i : ℕ) (h : j ≤ length xs) where
@@ -82,13 +82,15 @@ module _ (xs : List ℕ) (j count s : ℕ) (h : count ≤ length xs) (l : j ≤ 
   pub first_some : (k : ℕ) → position (λ x. eqb x s) between ≡ Some k → FirstAt xs j count s (j + k) × (j + k < count)
   first_some k e =
       let w = position-Some (λ x. eqb x s) between k 0 e in
-      let g : k < count - j = omega (arith, w.0, size) in
-      (record {
-        from = omega arith;
-        within = omega arith;
-        here = λ _. sym (here k g) ∙ eqb-true _ _ w.1;
-        before = passed k w.2 (omega arith);
-      }, omega arith)
+      let g : k < count - j = omega (arith, w.0, size) in (
+        record {
+          from = omega arith;
+          within = omega arith;
+          here = λ _. sym (here k g) ∙ eqb-true _ _ w.1;
+          before = passed k w.2 (omega arith);
+        },
+        omega arith,
+      )
 
   pub first_none : position (λ x. eqb x s) between ≡ None → FirstAt xs j count s count
   first_none e =
@@ -111,13 +113,17 @@ module _ (xs : List ℕ) (count s : ℕ) (h : count ≤ length xs) where
   front : take (count - 0) (drop 0 xs) ≡ take count xs
   front = let z : count - 0 ≡ count = omega arith in rw z
 
-  pub front_some : (k : ℕ) → position (λ x. eqb x s) (take count xs) ≡ Some k → FirstAt xs 0 count s k × (k < count)
+  front_some : (k : ℕ) → position (λ x. eqb x s) (take count xs) ≡ Some k → FirstAt xs 0 count s k × (k < count)
   front_some k e =
       let z : 0 + k ≡ k = omega arith in
       rw z at (first_some xs 0 count s h (omega arith) k (rw front e))
 
-  pub front_none : position (λ x. eqb x s) (take count xs) ≡ None → FirstAt xs 0 count s count
+  front_none : position (λ x. eqb x s) (take count xs) ≡ None → FirstAt xs 0 count s count
   front_none e = first_none xs 0 count s h (omega arith) (rw front e)
+
+  pub front_first : (o : Option ℕ) → o ≡ position (λ x. eqb x s) (take count xs) → First xs 0 count s o
+  front_first (Some k) e = front_some k (sym e)
+  front_first None e = front_none (sym e)
 
 -- ---- over the levels
 -- each level from 1 up to below i is taken by one of the first `count` entries

@@ -12,51 +12,54 @@ ghost use Rattle.std.specs.Prelude.{◌≡◌, take};
 ghost use Rattle.system.specs.Lent.{system_in};
 ghost use Rattle.call.specs.Call.{leaves};
 ghost use Rattle.call.specs.Promise.{stores, Promised};
+ghost use Rattle.search.specs.Lent.{SameSlices, stores_of};
 ghost use Rattle.search.specs.Inner.{Finishes, Closing, Closes};
 
 use react::Verdict;
-use store::keep;
+use store::Lent;
 use system::System;
 use turn::{Ending, Tabled};
 
-// The stores as they are left: the states start with `front` of their numbers and the path with `len` of its own, and everything else is zero.
-fn finish(states: &mut [u64], levels: &mut [u32], path: &mut [u64], front: usize, len: usize)
-    requires { Finishes front len (stores states.old levels.old path.old) }
-    ensures { stores states.new levels.new path.new
-        ≡ leaves (stores states.old levels.old path.old)
-        (take front states.old) (take len path.old) }
-{
-    stores::clear_behind(states, front);
-    stores::clear(levels);
-    stores::clear_behind(path, len);
-}
-
-// The stores are left with the evidence alone.
-fn close(states: &mut [u64], levels: &mut [u32], path: &mut [u64], ending: Ending) -> call::Outcome
-    requires { Closing ending.verdict (stores states.old levels.old path.old) }
-    ensures { Closes (stores states.old levels.old path.old) ending.verdict ending.questions
-        result (stores states.new levels.new path.new) }
-{
-    let questions = ending.questions;
-    let verdict = ending.verdict;
-    let mut front = 0;
-    let mut len = 0;
-    let mut outcome = call::Outcome::GaveUp(5, questions);
-    match verdict {
-        Verdict::Safe(i, count) => {
-            front = keep(states, levels, count, i);
-            outcome = call::Outcome::Safe(front, questions);
-        }
-        Verdict::Unsafe(k) => {
-            len = k;
-            outcome = call::Outcome::Unsafe(k, questions);
-        }
-        Verdict::GaveUp(why) => {
-            outcome = call::Outcome::GaveUp(why.into(), questions);
-        }
+impl Lent<'_> {
+    // The stores as they are left: the states start with `front` of their numbers and the path with `len` of its own, and everything else is zero.
+    fn finish(&mut self, front: usize, len: usize)
+        requires { Finishes front len (stores_of self.old) }
+        ensures left { stores_of self.new
+            ≡ leaves (stores_of self.old) (take front self.old.states.now) (take len self.old.path.now) }
+        ensures slices { SameSlices self.old self.new }
+    {
+        stores::clear_behind(self.states, front);
+        stores::clear(self.levels);
+        stores::clear_behind(self.path, len);
     }
-    finish(states, levels, path, front, len);
-    outcome
+
+    // The stores are left with the evidence alone.
+    fn close(&mut self, ending: Ending) -> call::Outcome
+        requires { Closing ending.verdict (stores_of self.old) }
+        ensures closes { Closes (stores_of self.old) ending.verdict ending.questions result (stores_of self.new) }
+        ensures slices { SameSlices self.old self.new }
+    {
+        let questions = ending.questions;
+        let verdict = ending.verdict;
+        let mut front = 0;
+        let mut len = 0;
+        let mut outcome = call::Outcome::GaveUp(5, questions);
+        match verdict {
+            Verdict::Safe(i, count) => {
+                front = self.keep(count, i);
+                outcome = call::Outcome::Safe(front, questions);
+            }
+            Verdict::Unsafe(k) => {
+                len = k;
+                outcome = call::Outcome::Unsafe(k, questions);
+            }
+            Verdict::GaveUp(why) => {
+                outcome = call::Outcome::GaveUp(why.into(), questions);
+            }
+        }
+        self.finish(front, len);
+        outcome
+    }
 }
 
 // The call of the scope.
@@ -84,6 +87,11 @@ pub fn search(
         step_table: &step_table,
         bad_table: &bad_table,
     };
-    let ending = tabled.searched(states, levels, path, allowance);
-    close(states, levels, path, ending)
+    let mut lent = Lent {
+        states,
+        levels,
+        path,
+    };
+    let ending = tabled.searched(&mut lent, allowance);
+    lent.close(ending)
 }

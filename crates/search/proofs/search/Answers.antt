@@ -6,7 +6,10 @@ use Rattle.base.proofs.Refusals.{number_not_none}
 use Rattle.system.specs.System.{System, refusal_of}
 use Rattle.call.specs.Call.{Stores, wrong_stores, refused}
 use Rattle.call.proofs.Call.{refused_stores}
-use Rattle.search.proofs.Promising.{system_promised, stores_promised, lends, searched_promised}
+use Rattle.search.proofs.Promising.{system_promised, stores_promised, lends, searched_promised, promised_same}
+use Rattle.search.proofs.Turns.{same_lengths}
+use Rattle.search.proofs.Closing.{stores_same}
+use borrow.Author.Rules.{rules}
 use Rattle.search.proofs.search.Goals as goal
 
 -- behind both tests nothing is refused
@@ -26,8 +29,6 @@ searched-ending-requires c =
 pub returns : goal.returns
 returns c =
     let none = accepted _ _ c.in_default.ensures c.wrong_stores.ensures c.if-wrong_stores.false in
-    let run = c.searched-ending in
-    let l = run.ensures.lends in
-    searched_promised _ _ none run.ensures
-    (record { states = l.states; levels = l.levels ∙ sym (lends _ _ none).levels; path = run.auto.path })
-    c.close.ensures
+    let run = c.searched-ending.ensures in
+    let all = searched_promised _ _ none run.ends (same_lengths run.slices) c.close.ensures.closes in
+    promised_same (stores_same (search rules) (search rules) (search rules)) all

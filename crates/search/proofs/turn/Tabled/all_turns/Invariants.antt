@@ -4,16 +4,18 @@ use lib.ListN.{length}
 use Rattle.ic3.specs.Search.{search_from}
 use Rattle.system.specs.System.{model}
 use Rattle.system.specs.Lent.{system_in}
-use Rattle.call.specs.Promise.{stores}
 use Rattle.call.specs.Call.{rounds}
-use Rattle.search.specs.Lent.{config_of}
+use Rattle.search.specs.Lent.{SameSlices, stores_of, config_of}
 use Rattle.search.proofs.Turns.{Running}
 use Rattle.search.proofs.turn.Tabled.all_turns.Given as goal
 
 abbrev pub invariant-loop-before : goal.invariant-loop-before
 invariant-loop-before l =
     let y = system_in l.self.system in
-    let s₀ = stores l.initial.states l.initial.levels l.initial.path in
-    Running y l.allowance s₀
-    (search_from rounds (l.allowance - l.asked) (model y) (length l.initial.states) (config_of l.initial.c s₀) l.asked)
-    l.c l.before (stores l.states l.levels l.path)
+    let s₀ = stores_of l.initial.lent in
+    record {
+      running : Running y l.allowance s₀
+          (search_from rounds (l.allowance - l.asked) (model y) (length s₀.states) (config_of l.initial.c s₀) l.asked)
+          l.c l.before (stores_of l.lent);
+      slices : SameSlices l.initial.lent l.lent;
+    }

@@ -13,14 +13,14 @@ round-requires c =
     let h = (ready_asks c.requires).holds in
     record { within = rw h.same h.within; above = omega arith; below = omega arith }
 
-pub returns-in-Some : goal.returns-in-Some
-returns-in-Some c =
+pub returns-in-Some-clause-moves : goal.returns-in-Some-clause-moves
+returns-in-Some-clause-moves c =
     let w = c.requires in
     let e = rw c.in-Some.is at c.bad_state.ensures in
-    moves_to (look_some _ _ _ _ (ready_asks w) _ _ _ e) (c.found.ensures _ _)
+    moves_to (look_some _ _ _ _ (ready_asks w) _ _ _ e) c.found.ensures.moves
 
-pub returns-in-None : goal.returns-in-None
-returns-in-None c =
+pub returns-in-None-clause-moves : goal.returns-in-None-clause-moves
+returns-in-None-clause-moves c =
     let w = c.requires in
     let e = rw c.in-None.is at c.bad_state.ensures in
-    moves_to (look_none _ _ _ _ (ready_asks w) _ _ e) (c.round.ensures _ _)
+    moves_to (look_none _ _ _ _ (ready_asks w) _ _ e) c.round.ensures

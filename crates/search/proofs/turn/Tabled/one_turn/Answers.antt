@@ -6,14 +6,14 @@ pub raise-requires : goal.raise-requires
 raise-requires c =
     raise_ready (rw c.in-Raise.is at c.requires)
 
-pub returns-in-Look : goal.returns-in-Look
-returns-in-Look c =
-    rw c.in-Look.is c.look.ensures
+pub returns-in-Look-clause-moves : goal.returns-in-Look-clause-moves
+returns-in-Look-clause-moves c =
+    rw c.in-Look.is c.look.ensures.moves
 
-pub returns-in-Settle : goal.returns-in-Settle
-returns-in-Settle c =
-    rw c.in-Settle.is c.settle.ensures
+pub returns-in-Settle-clause-moves : goal.returns-in-Settle-clause-moves
+returns-in-Settle-clause-moves c =
+    rw c.in-Settle.is c.settle.ensures.moves
 
-pub returns-in-Raise : goal.returns-in-Raise
-returns-in-Raise c =
-    rw c.in-Raise.is (c.raise.ensures c.args.path.now)
+pub returns-in-Raise-clause-moves : goal.returns-in-Raise-clause-moves
+returns-in-Raise-clause-moves c =
+    rw c.in-Raise.is c.raise.ensures.moves

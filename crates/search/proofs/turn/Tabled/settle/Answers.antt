@@ -14,18 +14,18 @@ blocked-requires c =
     let w = c.requires in
     record { below = omega (arith, w.shape.placed); holds = (ready_asks w).holds }
 
-pub returns-in-Some : goal.returns-in-Some
-returns-in-Some c =
+pub returns-in-Some-clause-moves : goal.returns-in-Some-clause-moves
+returns-in-Some-clause-moves c =
     let a = c.args in
     let w = c.wide.ensures in
     let e = rw (w, add-one a.k) at (rw c.in-Some.is at c.step_state.ensures) in
-    moves_to (settle_some _ _ _ _ (ready_asks c.requires) _ _ _ _ _ _ e) (c.deeper.ensures _ _)
+    moves_to (settle_some _ _ _ _ (ready_asks c.requires) _ _ _ _ _ _ e) c.deeper.ensures.moves
 
-pub returns-in-None : goal.returns-in-None
-returns-in-None c =
+pub returns-in-None-clause-moves : goal.returns-in-None-clause-moves
+returns-in-None-clause-moves c =
     let a = c.args in
     let w = c.wide.ensures in
     let told = c.in-None.is in
     let e = rw (w, add-one a.k) at (rw told at c.step_state.ensures) in
-    let f = rw (w, add-one a.k) at (c.blocked.ensures a.path.now) in
+    let f = rw (w, add-one a.k) at c.blocked.ensures.moves in
     moves_to (settle_none _ _ _ _ (ready_asks c.requires) _ _ _ _ _ e) f

@@ -1,13 +1,13 @@
--- `search::finish` meets its contract: each store is cleared behind its front, the levels have none. Assumes nothing.
+-- `Lent::finish` meets its contract: each store is cleared behind its front, the levels have none. Assumes nothing.
 use mathlib.Core.Path.{◌∙◌}
 use Rattle.stores.proofs.Over.{over_take, over_none}
 use Rattle.call.specs.Call.{leaves}
 use Rattle.search.proofs.Closing.{stores_same}
-use Rattle.search.proofs.finish.Goals as goal
+use Rattle.search.proofs.store.Lent.finish.Goals as goal
 
-pub returns : goal.returns
+pub returns-clause-left : goal.returns-clause-left
 unfolding leaves
-returns c =
+returns-clause-left c =
     stores_same
     (c.clear_behind.ensures ∙ over_take _ _ c.requires.states)
     (c.clear.ensures ∙ over_none _)
