@@ -2,6 +2,7 @@
 // and what the three stores hold afterwards. The file `stdout` is worked out by hand from the scope.
 #![tactic(auto)]
 
+use counts::report;
 use tables::System;
 
 // Start {0} and bad {3}, of two bits. A clause has four masks: bits wanted 1, bits wanted 0, wires wanted 1, wires wanted 0.
@@ -147,16 +148,11 @@ const FILLED_LEVEL: u32 = 9;
 // The length of a whole store, longer than any that is lent.
 const STORE: usize = 65540;
 
-fn write_number(text: &[u8], number: u64) {
-    io::write_all(1, text);
-    io::print_decimal(1, number);
-}
-
 // A name and the numbers behind it, so many at most.
 fn write_front<T: Copy + Into<u64>>(name: &[u8], numbers: &[T], most: usize) {
     io::write_all(1, name);
     for x in numbers.iter().take(most) {
-        write_number(b" ", (*x).into());
+        report(b" ", (*x).into());
     }
 }
 
@@ -170,9 +166,9 @@ fn verdict(outcome: call::Outcome) -> &'static [u8] {
 
 // What the line of a call has behind the name: of each store the front.
 fn write_line(outcome: call::Outcome, states: &[u64], levels: &[u32], path: &[u64]) {
-    write_number(b": ", u64::from(call::number(outcome)));
+    report(b": ", u64::from(call::number(outcome)));
     io::write_all(1, verdict(outcome));
-    write_number(b", questions ", u64::from(call::questions(outcome)));
+    report(b", questions ", u64::from(call::questions(outcome)));
     write_front(b", evidence", call::evidence(states, path, outcome), 6);
     write_front(b"; states", states, 4);
     write_front(b"; levels", levels, 4);
@@ -338,9 +334,9 @@ fn wires() {
 
 // Ring with stores of these lengths, which stand behind the name.
 fn stores(name: &[u8], states: usize, levels: usize, path: usize) {
-    write_number(name, states as u64);
-    write_number(b" ", levels as u64);
-    write_number(b" ", path as u64);
+    report(name, states as u64);
+    report(b" ", levels as u64);
+    report(b" ", path as u64);
     lend(
         RING,
         Lent {
