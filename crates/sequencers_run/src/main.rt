@@ -10,7 +10,7 @@ const ZERO: [u64; 8] = [0, 1, 0, 0, 0, 2, 0, 0];
 
 const THREE: [u64; 8] = [1, 0, 0, 0, 2, 0, 0, 0];
 
-// 0→1→2→0, 3→3, in the clauses of the scope's example file.
+// Steps from 0 to 1 to 2 to 0, and from 3 to 3, in the clauses of the scope's example file.
 const RING_STEPS: [u64; 24] = [
     0x2_0000_0000,
     0x0_0000_0001,
@@ -38,7 +38,7 @@ const RING_STEPS: [u64; 24] = [
     0,
 ];
 
-// As Ring, and 2→3: from 2 both later bits are the same.
+// As Ring, and from 2 to 3: from 2 both later bits are the same.
 const LATE_STEPS: [u64; 28] = [
     0x2_0000_0000,
     0x0_0000_0001,
@@ -70,7 +70,7 @@ const LATE_STEPS: [u64; 28] = [
     0,
 ];
 
-// 0→0, 2→1→3→0: later bit 1 is 1 from 1 alone, later bit 0 from 1 and 2.
+// From 0 to 0, and from 2 to 1 to 3 to 0: later bit 1 is 1 from 1 alone, later bit 0 from 1 and 2.
 const CHAIN_STEPS: [u64; 28] = [
     0x2_0000_0002,
     0x0_0000_0001,
