@@ -79,27 +79,6 @@ impl Literal {
         }
     }
 
-    // From eight random bits: the value, the place among n bits and behind them w wires, and, if later bits are allowed, whether a bit is one.
-    fn of_bits(n: u32, w: u32, later: bool, bits: u64) -> Literal {
-        let one = bits % 2 == 1;
-        let wires = n as u64;
-        let all = wires + w as u64;
-        let place = if all == 0 { 0 } else { (bits >> 1) % 64 % all };
-        if place < wires {
-            let high = if later { (bits >> 2) & 32 } else { 0 };
-            return Literal {
-                pair: 1 << ((place | high) % 64),
-                wire: 0,
-                one,
-            };
-        }
-        Literal {
-            pair: 0,
-            wire: 1 << ((place - wires) % 64),
-            one,
-        }
-    }
-
     fn not(self) -> Literal {
         Literal {
             one: !self.one,
@@ -160,30 +139,6 @@ pub fn front(list: &[u64], count: usize) -> &[u64] {
     &list[..count.min(list.len())]
 }
 
-// One of the three clauses that wire k is the AND of two literals of bits and lower wires; none, if it is free.
-fn gate(n: u32, k: u32, clause: u64, random: u64) -> Option<Clause> {
-    let a = Literal::of_bits(n, k, false, random >> 32);
-    let b = Literal::of_bits(n, k, false, random >> 40);
-    let x = Literal::wire(k as u64);
-    let c = match clause {
-        0 => any_of(&[x.not(), a]),
-        1 => any_of(&[x.not(), b]),
-        _ => any_of(&[x, a.not(), b.not()]),
-    };
-    ((random >> 48) % 4 != 0).then_some(c)
-}
-
-// One of the two clauses that bit k is one step later as a literal.
-fn latch(n: u32, w: u32, k: u64, clause: u64, random: u64) -> Option<Clause> {
-    let a = Literal::of_bits(n, w, false, random >> 32);
-    let t = Literal::later(k);
-    match clause {
-        0 => Some(any_of(&[t.not(), a])),
-        1 => Some(any_of(&[t, a.not()])),
-        _ => None,
-    }
-}
-
 // Clause j of a counter, about bit i. If bit c, below it, is 0, then bit i stays; if all bits below it are 1, it changes. Behind them the clause that
 // the state is not the highest.
 fn counting(n: u32, j: u64) -> Option<Clause> {
@@ -221,14 +176,69 @@ impl Plan {
         }
     }
 
+    // A literal from eight random bits: the value, the place among n bits and behind them w wires, and, if later bits are allowed, whether a bit is one.
+    fn literal(self, bits: u64) -> Literal {
+        let one = bits % 2 == 1;
+        let wires = self.n as u64;
+        let all = wires + self.w as u64;
+        let place = if all == 0 { 0 } else { (bits >> 1) % 64 % all };
+        if place < wires {
+            let high = if self.later { (bits >> 2) & 32 } else { 0 };
+            return Literal {
+                pair: 1 << ((place | high) % 64),
+                wire: 0,
+                one,
+            };
+        }
+        Literal {
+            pair: 0,
+            wire: 1 << ((place - wires) % 64),
+            one,
+        }
+    }
+
+    // A literal of bits now and the first w wires.
+    fn now(self, w: u32, bits: u64) -> Literal {
+        Plan {
+            w,
+            later: false,
+            ..self
+        }
+        .literal(bits)
+    }
+
     // A clause of three literals, or of two, where the first comes twice.
     fn short(self, random: u64) -> Clause {
         let third = random >> ((random >> 24) % 2 * 16);
         any_of(&[
-            Literal::of_bits(self.n, self.w, self.later, random),
-            Literal::of_bits(self.n, self.w, self.later, random >> 8),
-            Literal::of_bits(self.n, self.w, self.later, third),
+            self.literal(random),
+            self.literal(random >> 8),
+            self.literal(third),
         ])
+    }
+
+    // One of the three clauses that wire k is the AND of two literals of bits and lower wires; none, if it is free.
+    fn gate(self, k: u32, clause: u64, random: u64) -> Option<Clause> {
+        let a = self.now(k, random >> 32);
+        let b = self.now(k, random >> 40);
+        let x = Literal::wire(k as u64);
+        let c = match clause {
+            0 => any_of(&[x.not(), a]),
+            1 => any_of(&[x.not(), b]),
+            _ => any_of(&[x, a.not(), b.not()]),
+        };
+        ((random >> 48) % 4 != 0).then_some(c)
+    }
+
+    // One of the two clauses that bit k is one step later as a literal.
+    fn latch(self, k: u64, clause: u64, random: u64) -> Option<Clause> {
+        let a = self.now(self.w, random >> 32);
+        let t = Literal::later(k);
+        match clause {
+            0 => Some(any_of(&[t.not(), a])),
+            1 => Some(any_of(&[t, a.not()])),
+            _ => None,
+        }
     }
 
     // Clause j of a circuit: three for each wire, and three behind them for each bit; of states alone, one behind the wires.
@@ -236,13 +246,12 @@ impl Plan {
         let wires = self.w as u64;
         let k = j / 3;
         if k < wires {
-            return gate(self.n, k as u32, j % 3, random);
+            return self.gate(k as u32, j % 3, random);
         }
         if self.later {
-            return latch(self.n, self.w, k - wires, j % 3, random);
+            return self.latch(k - wires, j % 3, random);
         }
-        let output = Literal::of_bits(self.n, self.w, false, random >> 32);
-        (j == wires * 3).then_some(any_of(&[output]))
+        (j == wires * 3).then_some(any_of(&[self.now(self.w, random >> 32)]))
     }
 
     // Clause j of an explicit list: that which is false of pair j, or state j, alone.
