@@ -282,7 +282,8 @@ fn sizes() {
     free(b"n = 33", 33, 1);
 }
 
-// Ring with so many wires and another list of start.
+// Ring with so many wires and another list of start, of step, or of bad.
+// Stays: the three set a field each, which no parameter can name, and one function with a switch over the lists is longer than they are.
 fn start(name: &[u8], w: u32, start: &[u64]) {
     call(name, System { w, start, ..RING }, USUAL);
 }
