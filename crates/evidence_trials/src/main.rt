@@ -2,7 +2,7 @@
 // which shares no code with them. The file `stdout` is from `expected.py`, which makes the same systems and damages and decides once more.
 #![tactic(auto)]
 
-mod checks;
+mod answers;
 mod damage;
 mod found;
 mod refusals;
@@ -31,7 +31,7 @@ fn compare(tally: &mut Tally, check: Check, d: Damage, found: Found, s: System, 
     let mut room = [0; 20];
     let list = d.done(found.list, &mut room);
     let said = check.ask(s, list);
-    let wanted = check.wanted(table, list);
+    let wanted = answers::wanted(check, table, list);
     tally.enter(check, found.own, d.way, said, wanted, list.len());
 }
 

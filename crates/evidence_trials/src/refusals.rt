@@ -1,6 +1,6 @@
 // Systems, or listed numbers, that both checks refuse.
-use super::checks::Check;
-use super::tally::report;
+use checks::Check;
+use counts::report;
 use evidence::Checked;
 use tables::{List, System};
 

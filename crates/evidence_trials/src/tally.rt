@@ -1,7 +1,9 @@
 // What is counted, and the lines that say so.
-use super::checks::{ANSWERS, Answer, Check};
+use super::answers;
+use super::answers::{ANSWERS, Answer};
 use super::damage::{WAYS, Way};
-use counts::Counts;
+use checks::Check;
+use counts::{Counts, report};
 use evidence::Checked;
 
 // How often each answer was given on each line: for each way, of excluded states, then of paths, then of either given to the other check.
@@ -94,7 +96,7 @@ impl Tally {
             .add(place_of(Given::to(check, own), way, answer), 1);
         self.totals.count(DIFFER, answer != wanted);
         self.totals
-            .count(QUESTIONS_WRONG, !check.asks_right(said, k));
+            .count(QUESTIONS_WRONG, !answers::asks_right(check, said, k));
         self.totals.stir(DIGEST, answer as u64);
         if let Checked::Yes(asked) = said {
             self.totals.add(QUESTIONS, asked as u64);
@@ -128,9 +130,4 @@ impl Tally {
             ],
         );
     }
-}
-
-pub fn report(name: &[u8], number: u64) {
-    io::write_all(1, name);
-    io::print_decimal(1, number);
 }

@@ -2,6 +2,7 @@
 // and what the three stores hold afterwards. The file `stdout` is worked out by hand from the scope.
 #![tactic(auto)]
 
+use counts::report;
 use tables::System;
 
 // Start {0} and bad {3}, of two bits. A clause has four masks: bits wanted 1, bits wanted 0, wires wanted 1, wires wanted 0.
@@ -9,7 +10,7 @@ const ZERO: [u64; 8] = [0, 1, 0, 0, 0, 2, 0, 0];
 
 const THREE: [u64; 8] = [1, 0, 0, 0, 2, 0, 0, 0];
 
-// 0→1→2→0, 3→3, in the clauses of the scope's example file.
+// Steps from 0 to 1 to 2 to 0, and from 3 to 3, in the clauses of the scope's example file.
 const RING_STEPS: [u64; 24] = [
     0x2_0000_0000,
     0x0_0000_0001,
@@ -37,7 +38,7 @@ const RING_STEPS: [u64; 24] = [
     0,
 ];
 
-// As Ring, and 2→3: from 2 both later bits are the same.
+// As Ring, and from 2 to 3: from 2 both later bits are the same.
 const LATE_STEPS: [u64; 28] = [
     0x2_0000_0000,
     0x0_0000_0001,
@@ -69,7 +70,7 @@ const LATE_STEPS: [u64; 28] = [
     0,
 ];
 
-// 0→0, 2→1→3→0: later bit 1 is 1 from 1 alone, later bit 0 from 1 and 2.
+// From 0 to 0, and from 2 to 1 to 3 to 0: later bit 1 is 1 from 1 alone, later bit 0 from 1 and 2.
 const CHAIN_STEPS: [u64; 28] = [
     0x2_0000_0002,
     0x0_0000_0001,
@@ -147,16 +148,11 @@ const FILLED_LEVEL: u32 = 9;
 // The length of a whole store, longer than any that is lent.
 const STORE: usize = 65540;
 
-fn write_number(text: &[u8], number: u64) {
-    io::write_all(1, text);
-    io::print_decimal(1, number);
-}
-
 // A name and the numbers behind it, so many at most.
 fn write_front<T: Copy + Into<u64>>(name: &[u8], numbers: &[T], most: usize) {
     io::write_all(1, name);
     for x in numbers.iter().take(most) {
-        write_number(b" ", (*x).into());
+        report(b" ", (*x).into());
     }
 }
 
@@ -170,9 +166,9 @@ fn verdict(outcome: call::Outcome) -> &'static [u8] {
 
 // What the line of a call has behind the name: of each store the front.
 fn write_line(outcome: call::Outcome, states: &[u64], levels: &[u32], path: &[u64]) {
-    write_number(b": ", u64::from(call::number(outcome)));
+    report(b": ", u64::from(call::number(outcome)));
     io::write_all(1, verdict(outcome));
-    write_number(b", questions ", u64::from(call::questions(outcome)));
+    report(b", questions ", u64::from(call::questions(outcome)));
     write_front(b", evidence", call::evidence(states, path, outcome), 6);
     write_front(b"; states", states, 4);
     write_front(b"; levels", levels, 4);
@@ -286,7 +282,8 @@ fn sizes() {
     free(b"n = 33", 33, 1);
 }
 
-// Ring with so many wires and another list of start.
+// Ring with so many wires and another list of start, of step, or of bad.
+// Stays: the three set a field each, which no parameter can name, and one function with a switch over the lists is longer than they are.
 fn start(name: &[u8], w: u32, start: &[u64]) {
     call(name, System { w, start, ..RING }, USUAL);
 }
@@ -338,9 +335,9 @@ fn wires() {
 
 // Ring with stores of these lengths, which stand behind the name.
 fn stores(name: &[u8], states: usize, levels: usize, path: usize) {
-    write_number(name, states as u64);
-    write_number(b" ", levels as u64);
-    write_number(b" ", path as u64);
+    report(name, states as u64);
+    report(b" ", levels as u64);
+    report(b" ", path as u64);
     lend(
         RING,
         Lent {

@@ -1,10 +1,6 @@
 // Systems that the search and the list of states refuse, at the edges of what wires may be.
+use counts::report;
 use tables::{List, System};
-
-fn report(name: &[u8], number: u64) {
-    io::write_all(1, name);
-    io::print_decimal(1, number);
-}
 
 // What the search says of a system with room for two.
 fn searched(s: System) -> u32 {
