@@ -80,3 +80,9 @@ pub fn write_name(name: &[u8], width: usize) {
         io::write_all(1, b" ");
     }
 }
+
+// A name, and a number behind it.
+pub fn write_number(name: &[u8], number: u64) {
+    io::write_all(1, name);
+    io::print_decimal(1, number);
+}

@@ -1,5 +1,5 @@
 // Right evidence of a system, found by the walk over all states.
-use super::checks::Check;
+use checks::Check;
 use tables::Table;
 
 // Evidence found, and the check that it is for.
