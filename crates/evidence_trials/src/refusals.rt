@@ -5,9 +5,10 @@ use tables::{List, System};
 
 // What a check refuses, of a system and a listed number that is no state; 0 if it does not.
 fn refusal(check: Check, s: System) -> u64 {
-    check
-        .ask(s, &[1 << 33])
-        .map_or_else(|refusal| u64::from(u32::from(refusal)), |_| 0)
+    match check.ask(s, &[1 << 33]) {
+        Ok(_) => 0,
+        Err(refusal) => u64::from(u32::from(refusal)),
+    }
 }
 
 // A system with one list that is not empty, some masks of a clause, and how both checks refuse it.
