@@ -2,7 +2,8 @@
 // and what the three stores hold afterwards. The file `stdout` is worked out by hand from the scope.
 #![tactic(auto)]
 
-use tables::System;
+use counts::write_number;
+use system::System;
 
 // Start {0} and bad {3}, of two bits. A clause has four masks: bits wanted 1, bits wanted 0, wires wanted 1, wires wanted 0.
 const ZERO: [u64; 8] = [0, 1, 0, 0, 0, 2, 0, 0];
@@ -147,11 +148,6 @@ const FILLED_LEVEL: u32 = 9;
 // The length of a whole store, longer than any that is lent.
 const STORE: usize = 65540;
 
-fn write_number(text: &[u8], number: u64) {
-    io::write_all(1, text);
-    io::print_decimal(1, number);
-}
-
 // A name and the numbers behind it, so many at most.
 fn write_front<T: Copy + Into<u64>>(name: &[u8], numbers: &[T], most: usize) {
     io::write_all(1, name);
@@ -182,9 +178,7 @@ fn write_line(outcome: call::Outcome, states: &[u64], levels: &[u32], path: &[u6
 
 // A search in these stores, and its line.
 fn search(s: System, states: &mut [u64], levels: &mut [u32], path: &mut [u64], allowance: u32) {
-    let outcome = search::search(
-        s.n, s.w, s.start, s.step, s.bad, states, levels, path, allowance,
-    );
+    let outcome = search::search(s, states, levels, path, allowance);
     write_line(outcome, states, levels, path);
 }
 
