@@ -1,16 +1,32 @@
-// The two checks of evidence, for the trials: which of them is for what a search gave, and what the walk over all states says beside it, which shares no
-// code with them.
+// What the trials give to the crates that they test: a system as these take it; and the two checks of evidence, which of them is for what a search gave,
+// and what the walk over all states says beside it, which shares no code with them.
 #![tactic(auto)]
 
 ghost use Rattle.std.specs.Prelude.{◌≡◌};
 ghost use Rattle.system.specs.System.{system_of};
+ghost use Rattle.system.specs.Lent.{system_in};
+ghost use Rattle.evidence.specs.Told.{checked_of};
 ghost use Rattle.evidence.specs.Promise.{ExcludedChecked, PathChecked};
 ghost use Rattle.checks.specs.Check.{check_of, number_of};
 ghost use Rattle.checks.specs.declared.Check.TheVariants.{Excluded, Path};
 
+use base::Refusal;
 use call::Outcome;
 use evidence::Checked;
 use tables::{System, Table};
+
+// The system of a trial as the tested crates take it.
+pub fn system_of(s: System) -> system::System
+    ensures { system_in result ≡ system_of s.entry.n s.entry.w s.entry.start.now s.entry.step.now s.entry.bad.now }
+{
+    system::System {
+        n: s.n,
+        w: s.w,
+        start: s.start,
+        step: s.step,
+        bad: s.bad,
+    }
+}
 
 // The check of excluded states, or of paths.
 #[derive(Clone, Copy, Debug, PartialEq, Eq)]
@@ -44,15 +60,15 @@ impl Check {
     }
 
     // What the check says of a list.
-    pub fn ask(self, s: System, list: &[u64]) -> Checked
+    pub fn ask(self, s: System, list: &[u64]) -> Result<Checked, Refusal>
         ensures excluded { self ≡ Excluded →
-            ExcludedChecked (system_of s.entry.n s.entry.w s.entry.start.now s.entry.step.now s.entry.bad.now) list.now result }
+            ExcludedChecked (system_of s.entry.n s.entry.w s.entry.start.now s.entry.step.now s.entry.bad.now) list.now (checked_of result) }
         ensures path { self ≡ Path →
-            PathChecked (system_of s.entry.n s.entry.w s.entry.start.now s.entry.step.now s.entry.bad.now) list.now result }
+            PathChecked (system_of s.entry.n s.entry.w s.entry.start.now s.entry.step.now s.entry.bad.now) list.now (checked_of result) }
     {
         match self {
-            Check::Excluded => evidence::check_excluded(s.n, s.w, s.start, s.step, s.bad, list),
-            Check::Path => evidence::check_path(s.n, s.w, s.start, s.step, s.bad, list),
+            Check::Excluded => evidence::check_excluded(system_of(s), list),
+            Check::Path => evidence::check_path(system_of(s), list),
         }
     }
 

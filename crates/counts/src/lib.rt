@@ -81,8 +81,8 @@ pub fn write_name(name: &[u8], width: usize) {
     }
 }
 
-// A number behind its name.
-pub fn report(name: &[u8], number: u64) {
+// A name, and a number behind it.
+pub fn write_number(name: &[u8], number: u64) {
     io::write_all(1, name);
     io::print_decimal(1, number);
 }

@@ -8,6 +8,7 @@ mod found;
 mod refusals;
 mod tally;
 
+use answers::Answer;
 use checks::Check;
 use damage::{Damage, WAYS};
 use found::Found;
@@ -31,7 +32,7 @@ fn compare(tally: &mut Tally, check: Check, d: Damage, found: Found, s: System, 
     let mut room = [0; 20];
     let list = d.done(found.list, &mut room);
     let said = check.ask(s, list);
-    let wanted = answers::wanted(check, table, list);
+    let wanted = Answer::wanted(check, table, list);
     tally.enter(check, found.own, d.way, said, wanted, list.len());
 }
 

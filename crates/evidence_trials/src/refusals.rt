@@ -1,22 +1,21 @@
 // Systems, or listed numbers, that both checks refuse.
 use checks::Check;
-use counts::report;
-use evidence::Checked;
+use counts::write_number;
 use tables::{List, System};
 
 // What a check refuses, of a system and a listed number that is no state; 0 if it does not.
 fn refusal(check: Check, s: System) -> u64 {
     match check.ask(s, &[1 << 33]) {
-        Checked::Refused(number) => number as u64,
-        _ => 0,
+        Ok(_) => 0,
+        Err(refusal) => u64::from(u32::from(refusal)),
     }
 }
 
 // A system with one list that is not empty, some masks of a clause, and how both checks refuse it.
 fn write_refusal(n: u32, w: u32, wrong: List, masks: usize, clause: [u64; 4]) {
     let s = System::of_one(n, w, wrong, small_systems::front(&clause, masks));
-    report(b"n ", n as u64);
-    report(b", w ", w as u64);
+    write_number(b"n ", n as u64);
+    write_number(b", w ", w as u64);
     io::write_all(
         1,
         match wrong {
@@ -25,13 +24,13 @@ fn write_refusal(n: u32, w: u32, wrong: List, masks: usize, clause: [u64; 4]) {
             List::Bad => b", bad   ",
         },
     );
-    report(b"with masks ", masks as u64);
+    write_number(b"with masks ", masks as u64);
     io::write_all(1, b" of");
     for mask in &clause {
-        report(b" ", *mask);
+        write_number(b" ", *mask);
     }
-    report(b": refused with ", refusal(Check::Excluded, s));
-    report(b" and ", refusal(Check::Path, s));
+    write_number(b": refused with ", refusal(Check::Excluded, s));
+    write_number(b" and ", refusal(Check::Path, s));
     io::write_all(1, b"\n");
 }
 

@@ -1,9 +1,9 @@
 // What is counted, and the lines that say so.
-use super::answers;
-use super::answers::{ANSWERS, Answer};
+use super::answers::{ANSWERS, Answer, asks_right};
 use super::damage::{WAYS, Way};
+use base::Refusal;
 use checks::Check;
-use counts::{Counts, report};
+use counts::Counts;
 use evidence::Checked;
 
 // How often each answer was given on each line: for each way, of excluded states, then of paths, then of either given to the other check.
@@ -87,7 +87,7 @@ impl Tally {
         check: Check,
         own: Check,
         way: Way,
-        said: Checked,
+        said: Result<Checked, Refusal>,
         wanted: Answer,
         k: usize,
     ) {
@@ -96,9 +96,9 @@ impl Tally {
             .add(place_of(Given::to(check, own), way, answer), 1);
         self.totals.count(DIFFER, answer != wanted);
         self.totals
-            .count(QUESTIONS_WRONG, !answers::asks_right(check, said, k));
+            .count(QUESTIONS_WRONG, !asks_right(check, said, k));
         self.totals.stir(DIGEST, answer as u64);
-        if let Checked::Yes(asked) = said {
+        if let Ok(Checked::Yes(asked)) = said {
             self.totals.add(QUESTIONS, asked as u64);
         }
     }
@@ -113,7 +113,7 @@ impl Tally {
                 counts::write_name(given.name(), 16);
                 counts::write_name(way.name(), 8);
                 for answer in ANSWERS {
-                    report(b" ", self.answers.at(place_of(given, way, answer)));
+                    counts::write_number(b" ", self.answers.at(place_of(given, way, answer)));
                 }
                 io::write_all(1, b"\n");
             }

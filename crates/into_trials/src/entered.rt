@@ -1,5 +1,7 @@
 // Each call held against what it has to do, counted and written.
+use base::Refusal;
 use counts::Counts;
+use into::{Listing, Unlisted};
 
 // What a store holds beforehand.
 pub const FILLED: u64 = 0x0123_4567_89AB_CDEF;
@@ -32,66 +34,60 @@ const DIGEST: usize = 10;
 
 const DIFFER: usize = 11;
 
-// What is told if so many states are listed, and so many questions but the last were asked; a refusal before a question asks none.
-pub fn listing(number: u32, count: usize, before: usize) -> into::Listing {
-    let asks = number == 0 || number == 30;
-    into::Listing {
-        number,
-        count,
-        questions: if asks { before.wrapping_add(1) } else { 0 },
-    }
-}
-
-// Where a number is counted.
-fn place_of(number: u32) -> usize {
-    match number {
-        0 => LISTED,
-        1 => REFUSED_1,
-        2 => REFUSED_2,
-        3 => REFUSED_3,
-        29 => REFUSED_29,
-        30 => REFUSED_30,
+// Where a refusal is counted.
+fn place_of(refusal: Refusal) -> usize {
+    match refusal {
+        Refusal::Size => REFUSED_1,
+        Refusal::Masks => REFUSED_2,
+        Refusal::Bits => REFUSED_3,
+        Refusal::Given => REFUSED_29,
+        Refusal::Store => REFUSED_30,
         _ => REFUSED_OTHERWISE,
     }
 }
 
 // What entry j has to hold: the list and zeros behind it, zero, or what it held.
-fn entry(number: u32, list: &[u64], j: usize) -> u64 {
-    match number {
-        0 => list.get(j).copied().unwrap_or(0),
-        30 => 0,
-        _ => FILLED,
+fn entry(wanted: Result<Listing, Unlisted>, list: &[u64], j: usize) -> u64 {
+    match wanted {
+        Ok(_) => list.get(j).copied().unwrap_or(0),
+        Err(unlisted) if unlisted.refusal == Refusal::Store => 0,
+        Err(_) => FILLED,
     }
 }
 
-// The numbers of a listing, which are compared.
-fn numbers(l: into::Listing) -> (u32, usize, usize) {
-    (l.number, l.count, l.questions)
+// What a call told, as a number: of the refusal, of the states and of the questions.
+fn number(said: Result<Listing, Unlisted>) -> u64 {
+    match said {
+        Ok(listing) => (listing.count as u64) << 8 | (listing.questions as u64) << 32,
+        Err(unlisted) => u64::from(u32::from(unlisted.refusal)) | (unlisted.questions as u64) << 32,
+    }
 }
 
 // A call entered: what it told and what it had to tell, and its store, in front of which the list has to stand if it lists.
 pub fn enter(
     counts: &mut Counts<PLACES>,
-    said: into::Listing,
-    wanted: into::Listing,
+    said: Result<Listing, Unlisted>,
+    wanted: Result<Listing, Unlisted>,
     store: &[u64],
     list: &[u64],
 ) {
     let stored = store
         .iter()
         .enumerate()
-        .all(|(j, x)| *x == entry(wanted.number, list, j));
-    counts.stir(
-        DIGEST,
-        said.number as u64 | (said.count as u64) << 8 | (said.questions as u64) << 32,
-    );
+        .all(|(j, x)| *x == entry(wanted, list, j));
+    counts.stir(DIGEST, number(said));
     for x in store {
         counts.stir(DIGEST, *x);
     }
     counts.add(CALLS, 1);
-    counts.add(place_of(said.number), 1);
-    counts.add(WRITTEN, said.count as u64);
-    counts.count(DIFFER, !stored || numbers(said) != numbers(wanted));
+    match said {
+        Ok(listing) => {
+            counts.add(LISTED, 1);
+            counts.add(WRITTEN, listing.count as u64);
+        }
+        Err(unlisted) => counts.add(place_of(unlisted.refusal), 1),
+    }
+    counts.count(DIFFER, !stored || said != wanted);
 }
 
 pub fn write(counts: &Counts<PLACES>) {

@@ -6,8 +6,10 @@ mod entered;
 mod refused;
 mod systems;
 
+use base::Refusal;
 use counts::Counts;
 use entered::{FILLED, PLACES};
+use into::{Listing, Unlisted};
 use small_systems::{Kind, Plan};
 use systems::{Given, NO_STATES};
 use tables::System;
@@ -42,17 +44,20 @@ fn ask(
     state: u64,
     store: &mut [u64],
     list: &[u64],
-    wanted: into::Listing,
+    wanted: Result<Listing, Unlisted>,
 ) {
-    let said = into::list(s.n, s.w, s.start, s.step, s.bad, state, store);
+    let said = into::list(checks::system_of(s), state, store);
     entered::enter(counts, said, wanted, store, list);
 }
 
 // A call that is refused before a question. The store, of a few numbers, has to stay as it is.
-fn refuse(counts: &mut Counts<PLACES>, s: System, state: u64, number: u32, random: u64) {
+fn refuse(counts: &mut Counts<PLACES>, s: System, state: u64, refusal: Refusal, random: u64) {
     let mut store = [FILLED; 16];
     let room = ((random >> 48) % 17) as usize;
-    let wanted = entered::listing(number, 0, 0);
+    let wanted = Err(Unlisted {
+        refusal,
+        questions: 0,
+    });
     ask(counts, s, state, &mut store[..room], &[], wanted);
 }
 
@@ -62,9 +67,15 @@ fn lend(counts: &mut Counts<PLACES>, s: System, state: u64, list: &[u64], length
     let room = length.min(1026);
     let right = list.len();
     let wanted = if right <= room {
-        entered::listing(0, right, right)
+        Ok(Listing {
+            count: right,
+            questions: right.wrapping_add(1),
+        })
     } else {
-        entered::listing(30, 0, room)
+        Err(Unlisted {
+            refusal: Refusal::Store,
+            questions: room.wrapping_add(1),
+        })
     };
     ask(counts, s, state, &mut store[..room], list, wanted);
 }
@@ -86,7 +97,7 @@ fn targets(counts: &mut Counts<PLACES>, s: System, seed: u64) {
     for given in NO_STATES {
         random = small_systems::next(random);
         lengths(counts, s, Given::State.number(s.n, random >> 8));
-        refuse(counts, s, given.number(s.n, random), 29, random);
+        refuse(counts, s, given.number(s.n, random), Refusal::Given, random);
     }
 }
 

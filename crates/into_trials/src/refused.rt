@@ -2,6 +2,7 @@
 use super::entered::PLACES;
 use super::refuse;
 use super::systems::Given;
+use base::Refusal;
 use counts::Counts;
 use tables::{List, System};
 
@@ -18,12 +19,11 @@ enum Fault {
 }
 
 impl Fault {
-    // The number of the refusal.
-    fn number(self) -> u32 {
+    fn refusal(self) -> Refusal {
         match self {
-            Fault::NoBits | Fault::ManyBits => 1,
-            Fault::Masks => 2,
-            Fault::Bit | Fault::LaterBit | Fault::Later => 3,
+            Fault::NoBits | Fault::ManyBits => Refusal::Size,
+            Fault::Masks => Refusal::Masks,
+            Fault::Bit | Fault::LaterBit | Fault::Later => Refusal::Bits,
         }
     }
 
@@ -78,7 +78,7 @@ fn call(counts: &mut Counts<PLACES>, way: Way, n: u32, random: u64) {
             small_systems::front(&clause, masks),
         ),
         Given::of_bits(random >> 16).number(n, random),
-        fault.number(),
+        fault.refusal(),
         random,
     );
 }

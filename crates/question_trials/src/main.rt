@@ -180,7 +180,7 @@ impl<'a> Question<'a> {
     fn ask(self) -> Option<u64> {
         let free = question::Free { n: self.n, w: 0 };
         let order = self.order();
-        let answer = if self.steps {
+        if self.steps {
             question::step_in(
                 free,
                 &order,
@@ -203,10 +203,6 @@ impl<'a> Question<'a> {
                 self.i,
                 self.from,
             )
-        };
-        match answer {
-            question::Answer::State(state) => Some(state),
-            question::Answer::Nothing => None,
         }
     }
 }

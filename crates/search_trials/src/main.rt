@@ -76,7 +76,7 @@ fn look(
             questions,
             digest: small_systems::digest(head, list),
         },
-        check: check.is_none_or(|check| matches!(check.ask(s, list), Checked::Yes(_))),
+        check: check.is_none_or(|check| matches!(check.ask(s, list), Ok(Checked::Yes(_)))),
         walk: check.is_none_or(|check| check.holds(table, list))
             && small_systems::are_states(s.n, list),
         zero: is_cleared(check, list.len(), states, levels, path),
@@ -92,9 +92,7 @@ fn call(s: System, table: Table, room: usize, allowance: u32) -> Seen {
     let states = &mut states[..room];
     let levels = &mut levels[..room];
     let path = &mut path[..room + 2];
-    let outcome = search::search(
-        s.n, s.w, s.start, s.step, s.bad, states, levels, path, allowance,
-    );
+    let outcome = search::search(checks::system_of(s), states, levels, path, allowance);
     look(s, table, outcome, states, levels, path)
 }
 

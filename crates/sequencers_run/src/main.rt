@@ -2,15 +2,15 @@
 // and what the three stores hold afterwards. The file `stdout` is worked out by hand from the scope.
 #![tactic(auto)]
 
-use counts::report;
-use tables::System;
+use counts::write_number;
+use system::System;
 
 // Start {0} and bad {3}, of two bits. A clause has four masks: bits wanted 1, bits wanted 0, wires wanted 1, wires wanted 0.
 const ZERO: [u64; 8] = [0, 1, 0, 0, 0, 2, 0, 0];
 
 const THREE: [u64; 8] = [1, 0, 0, 0, 2, 0, 0, 0];
 
-// Steps from 0 to 1 to 2 to 0, and from 3 to 3, in the clauses of the scope's example file.
+// 0→1→2→0, 3→3, in the clauses of the scope's example file.
 const RING_STEPS: [u64; 24] = [
     0x2_0000_0000,
     0x0_0000_0001,
@@ -38,7 +38,7 @@ const RING_STEPS: [u64; 24] = [
     0,
 ];
 
-// As Ring, and from 2 to 3: from 2 both later bits are the same.
+// As Ring, and 2→3: from 2 both later bits are the same.
 const LATE_STEPS: [u64; 28] = [
     0x2_0000_0000,
     0x0_0000_0001,
@@ -70,7 +70,7 @@ const LATE_STEPS: [u64; 28] = [
     0,
 ];
 
-// From 0 to 0, and from 2 to 1 to 3 to 0: later bit 1 is 1 from 1 alone, later bit 0 from 1 and 2.
+// 0→0, 2→1→3→0: later bit 1 is 1 from 1 alone, later bit 0 from 1 and 2.
 const CHAIN_STEPS: [u64; 28] = [
     0x2_0000_0002,
     0x0_0000_0001,
@@ -152,7 +152,7 @@ const STORE: usize = 65540;
 fn write_front<T: Copy + Into<u64>>(name: &[u8], numbers: &[T], most: usize) {
     io::write_all(1, name);
     for x in numbers.iter().take(most) {
-        report(b" ", (*x).into());
+        write_number(b" ", (*x).into());
     }
 }
 
@@ -166,9 +166,9 @@ fn verdict(outcome: call::Outcome) -> &'static [u8] {
 
 // What the line of a call has behind the name: of each store the front.
 fn write_line(outcome: call::Outcome, states: &[u64], levels: &[u32], path: &[u64]) {
-    report(b": ", u64::from(call::number(outcome)));
+    write_number(b": ", u64::from(call::number(outcome)));
     io::write_all(1, verdict(outcome));
-    report(b", questions ", u64::from(call::questions(outcome)));
+    write_number(b", questions ", u64::from(call::questions(outcome)));
     write_front(b", evidence", call::evidence(states, path, outcome), 6);
     write_front(b"; states", states, 4);
     write_front(b"; levels", levels, 4);
@@ -178,9 +178,7 @@ fn write_line(outcome: call::Outcome, states: &[u64], levels: &[u32], path: &[u6
 
 // A search in these stores, and its line.
 fn search(s: System, states: &mut [u64], levels: &mut [u32], path: &mut [u64], allowance: u32) {
-    let outcome = search::search(
-        s.n, s.w, s.start, s.step, s.bad, states, levels, path, allowance,
-    );
+    let outcome = search::search(s, states, levels, path, allowance);
     write_line(outcome, states, levels, path);
 }
 
@@ -335,9 +333,9 @@ fn wires() {
 
 // Ring with stores of these lengths, which stand behind the name.
 fn stores(name: &[u8], states: usize, levels: usize, path: usize) {
-    report(name, states as u64);
-    report(b" ", levels as u64);
-    report(b" ", path as u64);
+    write_number(name, states as u64);
+    write_number(b" ", levels as u64);
+    write_number(b" ", path as u64);
     lend(
         RING,
         Lent {

@@ -1,6 +1,7 @@
 // Evidence, whole and damaged, given to both checks and held against the table.
 use super::places::PLACES;
 use super::{places, systems};
+use base::Refusal;
 use checks::Check;
 use counts::Counts;
 use evidence::Checked;
@@ -13,30 +14,30 @@ const DAMAGES: u64 = 6;
 const ROOM: usize = 36;
 
 // What a check said, as a number: which answer it was, and in front of it the count of questions or the number of the refusal.
-fn number(said: Checked) -> u64 {
+fn number(said: Result<Checked, Refusal>) -> u64 {
     match said {
-        Checked::Yes(asked) => (asked as u64) << 2,
-        Checked::No(asked) => (asked as u64) << 2 | 1,
-        Checked::Refused(number) => u64::from(number) << 2 | 2,
+        Ok(Checked::Yes(asked)) => (asked as u64) << 2,
+        Ok(Checked::No(asked)) => (asked as u64) << 2 | 1,
+        Err(refusal) => u64::from(u32::from(refusal)) << 2 | 2,
     }
 }
 
 // Where an answer is counted.
-fn place_of(said: Checked) -> usize {
+fn place_of(said: Result<Checked, Refusal>) -> usize {
     match said {
-        Checked::Yes(_) => places::YES,
-        Checked::No(_) => places::NO,
-        Checked::Refused(_) => places::REFUSED,
+        Ok(Checked::Yes(_)) => places::YES,
+        Ok(Checked::No(_)) => places::NO,
+        Err(_) => places::REFUSED,
     }
 }
 
 // Whether a check said what it must say, by the table.
-fn is_right(said: Checked, check: Check, table: Table, list: &[u64]) -> bool {
+fn is_right(said: Result<Checked, Refusal>, check: Check, table: Table, list: &[u64]) -> bool {
     let are_states = small_systems::are_states(table.n, list);
     match said {
-        Checked::Yes(_) => are_states && check.holds(table, list),
-        Checked::No(_) => are_states && !check.holds(table, list),
-        Checked::Refused(_) => !are_states,
+        Ok(Checked::Yes(_)) => are_states && check.holds(table, list),
+        Ok(Checked::No(_)) => are_states && !check.holds(table, list),
+        Err(_) => !are_states,
     }
 }
 

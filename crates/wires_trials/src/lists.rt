@@ -1,7 +1,9 @@
 // The states that step into each state of a system, listed and held against the table.
 use super::places;
 use super::places::PLACES;
+use base::Refusal;
 use counts::Counts;
+use into::{Listing, Unlisted};
 use tables::{System, Table};
 
 // What a store holds beforehand.
@@ -22,23 +24,43 @@ fn row_of<'b>(table: Table, t: usize, room: &'b mut [u64; ROOM]) -> &'b [u64] {
     small_systems::front(room, count)
 }
 
+// What a call told, as a number: of the refusal, of the states and of the questions.
+fn number(said: Result<Listing, Unlisted>) -> u64 {
+    match said {
+        Ok(listing) => (listing.count as u64) << 8 | (listing.questions as u64) << 16,
+        Err(unlisted) => u64::from(u32::from(unlisted.refusal)) | (unlisted.questions as u64) << 16,
+    }
+}
+
 // What a call told and left in the store, held against the row: it has the row in front and zeros behind, or, if there is no room for it, zeros alone.
-fn enter(counts: &mut Counts<PLACES>, said: into::Listing, store: &[u64], row: &[u64]) {
+fn enter(counts: &mut Counts<PLACES>, said: Result<Listing, Unlisted>, store: &[u64], row: &[u64]) {
     let fits = row.len() <= store.len();
     let list = small_systems::front(row, if fits { row.len() } else { 0 });
-    let number = if fits { 0 } else { 30 };
-    let asked = row.len().min(store.len()).wrapping_add(1);
-    let told = (said.number, said.count, said.questions) == (number, list.len(), asked);
+    let questions = row.len().min(store.len()).wrapping_add(1);
+    let wanted = if fits {
+        Ok(Listing {
+            count: row.len(),
+            questions,
+        })
+    } else {
+        Err(Unlisted {
+            refusal: Refusal::Store,
+            questions,
+        })
+    };
     let left = store
         .iter()
         .enumerate()
         .all(|(j, x)| *x == list.get(j).copied().unwrap_or(0));
-    let head = said.number as u64 | (said.count as u64) << 8 | (said.questions as u64) << 16;
-    counts.count(places::LISTED, said.number == 0);
-    counts.count(places::LISTS_REFUSED, said.number == 30);
-    counts.add(places::WRITTEN, said.count as u64);
-    counts.count(places::LISTS_WRONG, !(told && left));
-    counts.stir(places::LISTS, small_systems::digest(head, store));
+    match said {
+        Ok(listing) => {
+            counts.add(places::LISTED, 1);
+            counts.add(places::WRITTEN, listing.count as u64);
+        }
+        Err(unlisted) => counts.count(places::LISTS_REFUSED, unlisted.refusal == Refusal::Store),
+    }
+    counts.count(places::LISTS_WRONG, said != wanted || !left);
+    counts.stir(places::LISTS, small_systems::digest(number(said), store));
 }
 
 // One state. There is room for all states; for every fourth state room for two.
@@ -47,7 +69,7 @@ fn list(counts: &mut Counts<PLACES>, s: System, table: Table, t: usize) {
     let mut store = [FILLED; ROOM];
     let length = if t % 4 == 3 { 2 } else { ROOM };
     let store = &mut store[..length];
-    let said = into::list(s.n, s.w, s.start, s.step, s.bad, t as u64, store);
+    let said = into::list(checks::system_of(s), t as u64, store);
     enter(counts, said, store, row_of(table, t, &mut row));
 }
 

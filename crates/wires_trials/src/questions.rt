@@ -76,7 +76,7 @@ impl<'a> Query<'a> {
         start: &[u64],
         list: &[u64],
     ) -> Option<u64> {
-        let answer = match self.target {
+        match self.target {
             Some(target) => question::step_in(
                 free,
                 order,
@@ -98,10 +98,6 @@ impl<'a> Query<'a> {
                 self.i,
                 self.from,
             ),
-        };
-        match answer {
-            question::Answer::State(s) => Some(s),
-            question::Answer::Nothing => None,
         }
     }
 }

@@ -1,5 +1,5 @@
 // Systems that the search and the list of states refuse, at the edges of what wires may be.
-use counts::report;
+use counts::write_number;
 use tables::{List, System};
 
 // What the search says of a system with room for two.
@@ -8,11 +8,7 @@ fn searched(s: System) -> u32 {
     let mut levels = [0; 2];
     let mut path = [0; 4];
     call::number(search::search(
-        s.n,
-        s.w,
-        s.start,
-        s.step,
-        s.bad,
+        checks::system_of(s),
         &mut states,
         &mut levels,
         &mut path,
@@ -20,10 +16,13 @@ fn searched(s: System) -> u32 {
     ))
 }
 
-// What the list of states that step into one says, given a number that is no state.
+// What the list of states that step into one says, given a number that is no state; 0 if it is not refused.
 fn listed(s: System) -> u32 {
     let mut store = [0; 4];
-    into::list(s.n, s.w, s.start, s.step, s.bad, 4, &mut store).number
+    match into::list(checks::system_of(s), 4, &mut store) {
+        Ok(_) => 0,
+        Err(unlisted) => u32::from(unlisted.refusal),
+    }
 }
 
 // An edge: how many wires are declared, and a list's masks, so many of a clause with these wires wanted 1 and 0.
@@ -50,13 +49,13 @@ fn line(number: u64, which: List, edge: Edge) {
     let Edge(w, masks, on, off) = edge;
     let clause = [0, 0, on, off];
     let s = System::of_one(2, w, which, small_systems::front(&clause, masks));
-    report(b"w ", u64::from(w));
-    report(b", list ", number);
-    report(b" with masks ", masks as u64);
-    report(b" of 0 0 ", on);
-    report(b" ", off);
-    report(b": ", u64::from(searched(s)));
-    report(b" and ", u64::from(listed(s)));
+    write_number(b"w ", u64::from(w));
+    write_number(b", list ", number);
+    write_number(b" with masks ", masks as u64);
+    write_number(b" of 0 0 ", on);
+    write_number(b" ", off);
+    write_number(b": ", u64::from(searched(s)));
+    write_number(b" and ", u64::from(listed(s)));
     io::write_all(1, b"\n");
 }
 

@@ -80,9 +80,7 @@ fn search(
     let states = &mut states[..room];
     let levels = &mut levels[..room];
     let path = &mut path[..room + 2];
-    let outcome = search::search(
-        s.n, s.w, s.start, s.step, s.bad, states, levels, path, allowance,
-    );
+    let outcome = search::search(checks::system_of(s), states, levels, path, allowance);
     look(counts, s, table, outcome, states, levels, path, seed);
 }
 
