@@ -35,6 +35,14 @@ pub enum Check {
     Path,
 }
 
+// The three stores that a search was lent, as it left them.
+#[derive(Clone, Copy, Debug)]
+pub struct Stores<'a> {
+    pub states: &'a [u64],
+    pub levels: &'a [u32],
+    pub path: &'a [u64],
+}
+
 impl Check {
     // The check of what a search gives as evidence; none, if it gives none.
     pub fn of(outcome: Outcome) -> Option<Check>

@@ -7,7 +7,7 @@ mod systems;
 mod tally;
 
 use call::Outcome;
-use checks::Check;
+use checks::{Check, Stores};
 use counts::Counts;
 use evidence::Checked;
 use small_systems::Kind;
@@ -37,33 +37,20 @@ const ROOM: usize = 1024;
 const ENTRIES: usize = 1050624;
 
 // Whether all lent is zero that is not evidence, of k states.
-fn is_cleared(
-    check: Option<Check>,
-    k: usize,
-    states: &[u64],
-    levels: &[u32],
-    path: &[u64],
-) -> bool {
+fn is_cleared(check: Option<Check>, k: usize, stores: Stores) -> bool {
     let (excluded, stepped) = match check {
         Some(Check::Excluded) => (k, 0),
         Some(Check::Path) => (0, k),
         None => (0, 0),
     };
-    states.iter().skip(excluded).all(|x| *x == 0)
-        && levels.iter().all(|x| *x == 0)
-        && path.iter().skip(stepped).all(|x| *x == 0)
+    stores.states.iter().skip(excluded).all(|x| *x == 0)
+        && stores.levels.iter().all(|x| *x == 0)
+        && stores.path.iter().skip(stepped).all(|x| *x == 0)
 }
 
 // What a call did, looked at from every side. Where nothing was said there is no evidence, and nothing to accept.
-fn look(
-    s: System,
-    table: Table,
-    outcome: Outcome,
-    states: &[u64],
-    levels: &[u32],
-    path: &[u64],
-) -> Seen {
-    let list = call::evidence(states, path, outcome);
+fn look(s: System, table: Table, outcome: Outcome, stores: Stores) -> Seen {
+    let list = call::evidence(stores.states, stores.path, outcome);
     let check = Check::of(outcome);
     let number = call::number(outcome);
     let questions = call::questions(outcome);
@@ -79,7 +66,7 @@ fn look(
         check: check.is_none_or(|check| matches!(check.ask(s, list), Ok(Checked::Yes(_)))),
         walk: check.is_none_or(|check| check.holds(table, list))
             && small_systems::are_states(s.n, list),
-        zero: is_cleared(check, list.len(), states, levels, path),
+        zero: is_cleared(check, list.len(), stores),
     }
 }
 
@@ -93,7 +80,12 @@ fn call(s: System, table: Table, room: usize, allowance: u32) -> Seen {
     let levels = &mut levels[..room];
     let path = &mut path[..room + 2];
     let outcome = search::search(checks::system_of(s), states, levels, path, allowance);
-    look(s, table, outcome, states, levels, path)
+    let stores = Stores {
+        states,
+        levels,
+        path,
+    };
+    look(s, table, outcome, stores)
 }
 
 // The questions of the next system with full rounds: four bytes of standard input, the high one first. 0 where there are none left.

@@ -2,7 +2,7 @@
 use super::places::PLACES;
 use super::{damages, places};
 use call::Outcome;
-use checks::Check;
+use checks::{Check, Stores};
 use counts::Counts;
 use tables::{System, Table};
 
@@ -42,14 +42,12 @@ fn look(
     s: System,
     table: Table,
     outcome: Outcome,
-    states: &[u64],
-    levels: &[u32],
-    path: &[u64],
+    stores: Stores,
     seed: u64,
 ) {
-    let list = call::evidence(states, path, outcome);
+    let list = call::evidence(stores.states, stores.path, outcome);
     let check = Check::of(outcome);
-    let right = is_right(check, table, list) && levels.iter().all(|level| *level == 0);
+    let right = is_right(check, table, list) && stores.levels.iter().all(|level| *level == 0);
     let head = u64::from(call::number(outcome))
         | Check::number(check) << 8
         | u64::from(call::questions(outcome)) << 16;
@@ -57,7 +55,7 @@ fn look(
     counts.count(places::SEARCHES_WRONG, !right);
     counts.stir(
         places::SEARCHES,
-        small_systems::digest(small_systems::digest(head, states), path),
+        small_systems::digest(small_systems::digest(head, stores.states), stores.path),
     );
     if check.is_some() {
         damages::calls(counts, s, table, list, seed);
@@ -81,7 +79,12 @@ fn search(
     let levels = &mut levels[..room];
     let path = &mut path[..room + 2];
     let outcome = search::search(checks::system_of(s), states, levels, path, allowance);
-    look(counts, s, table, outcome, states, levels, path, seed);
+    let stores = Stores {
+        states,
+        levels,
+        path,
+    };
+    look(counts, s, table, outcome, stores, seed);
 }
 
 // A search with room and leave enough, one with a small room, and one with a small allowance.
