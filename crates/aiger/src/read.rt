@@ -7,7 +7,8 @@ ghost use Rattle.aiger.specs.Text.{most_counts, parts_of, behind_header, tells};
 ghost use Rattle.aiger.specs.Inner.{newer_in, HeadOf, Small, most_rows, ReadAs};
 
 use super::numbers::numbers;
-use super::part::{Form, Lines, Row, take_part, wrong_form};
+use super::part::{Form, Lines, take_part, wrong_form};
+use super::table::Row;
 use base::{Fault, Refusal};
 
 // The first edition takes the fewer counts, and no start values.
