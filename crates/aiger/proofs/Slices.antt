@@ -1,11 +1,10 @@
--- The rows in parts. A slice from a row on is the rest of the rows; rows that were counted have the latches in front, and gates enough for a word
--- behind. Assumes nothing.
-use Prim.Native.Nat.{ℕ, ◌+◌, ◌-◌, ◌*◌, ◌≤◌}
+-- The rows in parts. Rows that were counted have the latches in front, and gates enough for a word behind. Assumes nothing.
+use Prim.Native.Nat.{ℕ, ◌+◌, ◌*◌, ◌≤◌}
 use mathlib.Core.List.{List}
 use mathlib.Core.Path.{◌≡◌, ap, ◌∙◌}
 use native.Mathlib.Omega.{arith}
 use lib.ListN.{length, take, drop, length-drop}
-use lib.Seq.{length-take-le, take_all}
+use lib.Seq.{length-take-le}
 use Rattle.std.specs.List.{list_all}
 use Rattle.aiger.specs.Text.{vars}
 use Rattle.aiger.specs.Inner.{flattened, line_known, all_known, Sized}
@@ -14,9 +13,6 @@ use Rattle.aiger.specs.declared.table.Row.{Row}
 use Rattle.aiger.specs.declared.read.Header.{Header}
 use Rattle.aiger.proofs.Threes.{flat_drop, flat_take}
 use Rattle.aiger.proofs.Finding.{lines_known}
-
-pub rest_slice : (k : ℕ) (rows : List Row) → take (length rows - k) (drop k rows) ≡ drop k rows
-rest_slice k rows = take_all (length rows - k) (drop k rows) (omega (arith, length-drop k rows))
 
 -- the tests of latches and of gates, by the numbers
 pub latches_known : (rows : List Row) (k : ℕ)

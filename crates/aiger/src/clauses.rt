@@ -76,6 +76,8 @@ pub(super) fn with_literal(rows: Rows, m: Clause, v: u64, sign: u64) -> Clause
 }
 
 // One number at this index, if the store reaches so far.
+// Stays: `text::put` does the same with bytes. `laid`, on which the public promises of both rest, is of numbers; one function of both types would need a
+// trait whose law says what number each value is, and is no plainer.
 fn put(store: &mut [u64], at: usize, x: u64) -> usize
     requires { at < 2 ^ 63 }
     ensures { Writes at (x ∷ []) store.old result store.new }

@@ -114,6 +114,8 @@ fn last_refusal(
 }
 
 // The lists, each in front of its store and zeros behind it.
+// Stays: start, step and bad as one struct of three `&mut` would be taken apart at once in each of the three functions that lend it on, and no contract of
+// the callers, `import` and `import_newer`, could name it: it is no plainer.
 fn enter(
     text: &[u8],
     c: Singles,

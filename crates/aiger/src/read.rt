@@ -112,6 +112,7 @@ fn read_parts(text: &[u8], at: usize, h: Header, rows: &mut [Row]) -> Result<Rea
         row: 0,
     };
     let singles_at = take_part(text, latches_at, latches, rows)?;
+    // Their rows would stand behind the store, and so are not kept.
     let singles = Lines {
         form: Form {
             defines: false,
