@@ -14,7 +14,7 @@ use Rattle.circuit.proofs.Sentences as sentences
 use Rattle.circuit.proofs.Sentences.{fixed, start_length, latch_length}
 use Rattle.aiger.specs.Text.{latches_of, gates_of}
 use Rattle.aiger.specs.Inner.{flattened, start_list, Entered}
-use Rattle.aiger.specs.declared.part.Row.{Row}
+use Rattle.aiger.specs.declared.table.Row.{Row}
 use Rattle.aiger.proofs.Threes.{flat_length, latches_many, gates_many}
 
 laid_front : (w buffer : List ℕ) → length w ≤ length buffer → take (length w) (laid 0 w buffer) ≡ w

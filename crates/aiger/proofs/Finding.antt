@@ -16,7 +16,7 @@ use Rattle.circuit.specs.Refusals.{twice}
 use Rattle.circuit.proofs.Sentences.{fixed}
 use Rattle.aiger.specs.Text.{threes, vars, latches_of}
 use Rattle.aiger.specs.Inner.{no_row, flattened, has_var, line_known, all_known, is_fixed, start_list, gate_of}
-use Rattle.aiger.specs.declared.part.Row.{Row}
+use Rattle.aiger.specs.declared.table.Row.{Row}
 use Rattle.aiger.proofs.Threes.{found_any}
 use Rattle.aiger.proofs.Entering.{starts_many}
 

@@ -1,6 +1,6 @@
 -- What was read, judged: the rows are the circuit's variables in their order, so the tests that are made on rows are the circuit's, and the lists
 -- that are entered are its system's. Assumes nothing.
-use Prim.Native.Nat.{ℕ, zero, suc, ◌+◌, ◌-◌, ◌*◌, ◌≤◌}
+use Prim.Native.Nat.{ℕ, zero, suc, ◌+◌, ◌*◌, ◌≤◌}
 use mathlib.Core.Bool.{Bool, true, false, not, ◌&&◌, ◌||◌}
 use mathlib.Core.List.{List, ◌++◌, map, append_assoc}
 use mathlib.Core.Path.{◌≡◌, refl, sym, ap, ap₂, ◌∙◌}
@@ -22,13 +22,12 @@ use Rattle.circuit.proofs.Sentences.{fixed_le}
 use Rattle.circuit.proofs.Main.{starting, stepping, watching, import_counts}
 use Rattle.circuit.proofs.Refusals.{twice_distinct}
 use Rattle.aiger.specs.Text.{firsts, vars, latches_of, gates_of, circuit_of}
-use Rattle.aiger.specs.declared.part.Row.{Row}
+use Rattle.aiger.specs.declared.table.Row.{Row}
 use Rattle.aiger.specs.Inner.{flattened, known_in, start_list, LoopFree, Sized, too_few, Held, circuit_in}
 use Rattle.aiger.specs.Inner.{wrong_rows, shared_count, short, last_refusal}
 use Rattle.aiger.specs.declared.read.Header.{Header}
 use Rattle.aiger.specs.declared.read.Reading.{Reading}
-use Rattle.aiger.proofs.Slices.{flat_rest}
-use Rattle.aiger.proofs.Threes.{flat_length, flat_take, threes_append, outs_rows, latches_rows, latches_many}
+use Rattle.aiger.proofs.Threes.{flat_length, flat_drop, flat_take, threes_append, outs_rows, latches_rows, latches_many}
 use Rattle.aiger.proofs.Entering.{starts_many}
 use Rattle.aiger.proofs.Heading.{header_tests, header_limits, counted_latches, counted_inputs, counted_gates, counted_singles}
 use Rattle.aiger.proofs.Knowing.{starts_known, gates_known}
@@ -126,7 +125,7 @@ module _ {text : List ℕ} {r : Reading} {rows : List Row} (h : Held text r rows
 
   -- ---- refusal 24
   pub held_24 : (twice (defined (circuit_in h)) || not (every (known (circuit_in h)) (used (circuit_in h))))
-      ≡ (wrong_rows (flattened rows) H || not (every (known_in (vars (flattened rows))) literals))
+      ≡ (wrong_rows (flattened rows) H.latches (H.latches + H.inputs) || not (every (known_in (vars (flattened rows))) literals))
   unfolding wrong_rows known known_in circuit_of every
   held_24 =
       let vs = defined (circuit_in h) in
@@ -155,7 +154,7 @@ module _ {text : List ℕ} {r : Reading} {rows : List Row} (h : Held text r rows
 
   -- ---- the refusals from 24 on, as they are found
   pub held_refusal : circuit_refusal H.m (circuit_in h)
-      ≡ 24 if (wrong_rows (flattened rows) H || not (every (known_in (vars (flattened rows))) literals))
+      ≡ 24 if (wrong_rows (flattened rows) H.latches (H.latches + H.inputs) || not (every (known_in (vars (flattened rows))) literals))
       else 25 if not (loop_free (gates_of h.gates))
       else 26 if eqb H.outputs 0 && eqb H.bads 0
   unfolding circuit_refusal nothing_watched too_few circuit_of
@@ -185,14 +184,14 @@ module _ {text : List ℕ} {r : Reading} {rows : List Row} (h : Held text r rows
 
   -- the refusal of the import
   pub held_number : (a b d : ℕ) → import_refusal H.m (circuit_in h) a b d
-      ≡ 24 if (wrong_rows (flattened rows) H || not (every (known_in (vars (flattened rows))) literals))
+      ≡ 24 if (wrong_rows (flattened rows) H.latches (H.latches + H.inputs) || not (every (known_in (vars (flattened rows))) literals))
       else 25 if not (loop_free (gates_of h.gates))
       else last_refusal H h.latches a b d
   unfolding import_refusal last_refusal
   held_number a b d =
       first (circuit_refusal H.m (circuit_in h)) refl
       ∙ (ap (λ (x : ℕ). x else behind) held_refusal
-      ∙ last (wrong_rows (flattened rows) H || not (every (known_in (vars (flattened rows))) literals)) (not (loop_free (gates_of h.gates)))
+      ∙ last (wrong_rows (flattened rows) H.latches (H.latches + H.inputs) || not (every (known_in (vars (flattened rows))) literals)) (not (loop_free (gates_of h.gates)))
       (eqb H.outputs 0 && eqb H.bads 0) _)
     where
       behind : ℕ
@@ -217,10 +216,10 @@ module _ {text : List ℕ} {r : Reading} {rows : List Row} (h : Held text r rows
     abbrev number : ℕ
     number = import_refusal H.m (circuit_in h) a b d
 
-    pub number_24 : (wrong_rows (flattened rows) H || not K) ≡ true → number ≡ 24
+    pub number_24 : (wrong_rows (flattened rows) H.latches (H.latches + H.inputs) || not K) ≡ true → number ≡ 24
     number_24 e = held_number a b d ∙ rw e
 
-    module _ (e : (wrong_rows (flattened rows) H || not K) ≡ false) where
+    module _ (e : (wrong_rows (flattened rows) H.latches (H.latches + H.inputs) || not K) ≡ false) where
       pub number_25 : loop_free (gates_of h.gates) ≡ false → number ≡ 25
       number_25 f = held_number a b d ∙ rw (e, f)
 
@@ -267,15 +266,15 @@ module _ {text : List ℕ} {r : Reading} {rows : List Row} (h : Held text r rows
         pick false false false f = omega arith
 
   -- no gate's variable is defined twice where no row's is
-  pub held_loops : wrong_rows (flattened rows) H ≡ false → (found : Bool)
-      → LoopFree (flattened (take (length rows - (H.latches + H.inputs)) (drop (H.latches + H.inputs) rows))) found
+  pub held_loops : wrong_rows (flattened rows) H.latches (H.latches + H.inputs) ≡ false → (found : Bool)
+      → LoopFree (flattened (drop (H.latches + H.inputs) rows)) found
       → found ≡ loop_free (gates_of h.gates)
   unfolding wrong_rows circuit_of
   held_loops e found f =
       let t = ((or_fails (twice (vars (flattened rows))) _).0 e).0 in
       let d : Distinct (defined (circuit_in h)) = rw (← held_vars) ((twice_distinct (vars (flattened rows))).0 t) in
       let g = distinct_right (c_inputs) (outs (circuit_in h).gates) (distinct_right (latch_vars (circuit_in h)) (wires (circuit_in h)) d) in
-      (rw (flat_rest (H.latches + H.inputs) rows, gate_rows) at f) (rw (← outs_rows h.gates) g)
+      (rw (flat_drop (H.latches + H.inputs) rows, gate_rows) at f) (rw (← outs_rows h.gates) g)
     where
       c_inputs : List ℕ
       c_inputs = (circuit_in h).inputs

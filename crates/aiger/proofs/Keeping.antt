@@ -12,7 +12,7 @@ use Rattle.circuit.specs.Circuit.{any}
 use Rattle.circuit.specs.Refusals.{wrong_start}
 use Rattle.aiger.specs.Text.{latches_of, Told}
 use Rattle.aiger.specs.Inner.{flattened, most_rows, Kept, too_few, header_refusal, Held}
-use Rattle.aiger.specs.declared.part.Row.{Row}
+use Rattle.aiger.specs.declared.table.Row.{Row}
 use Rattle.aiger.specs.declared.read.Reading.{Reading}
 use Rattle.aiger.proofs.Heading.{header_limits}
 use Rattle.aiger.proofs.Threes.{flat_length, flat_take}

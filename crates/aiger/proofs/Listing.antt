@@ -18,7 +18,7 @@ use Rattle.circuit.proofs.Sentences.{lengths}
 use Rattle.circuit.proofs.Main.{starting, stepping, watching}
 use Rattle.aiger.specs.Text.{firsts, latches_of, gates_of, circuit_of}
 use Rattle.aiger.specs.Promise.{Result, Report, report_of, entered}
-use Rattle.aiger.specs.declared.part.Row.{Row}
+use Rattle.aiger.specs.declared.table.Row.{Row}
 use Rattle.aiger.specs.Inner.{flattened, Held, circuit_in, place_by, watched_of, constraints_of, Constraints, start_list, step_list, bad_list, short, Enters}
 use Rattle.aiger.specs.declared.again.Singles.{Singles}
 use Rattle.aiger.specs.declared.Imported.{Imported}

@@ -15,7 +15,7 @@ use Rattle.aiger.specs.Text.{row_of, Part, with_row, part}
 use Rattle.aiger.specs.Inner.{row_list, flattened, PutsRow, ReadsLine, wrong_form, part_from, Takes}
 use Rattle.aiger.specs.declared.part.Line.{Line}
 use Rattle.aiger.specs.declared.part.Lines.{Lines}
-use Rattle.aiger.specs.declared.part.Row.{Row}
+use Rattle.aiger.specs.declared.table.Row.{Row}
 use Rattle.aiger.proofs.Rows.{with_none, with_both, behind_row, part_next}
 
 -- a row that is put is three numbers that are written

@@ -22,7 +22,7 @@ use Rattle.masks.specs.declared.Mask.{Mask}
 use Rattle.system.specs.declared.Clause.{Clause}
 use Rattle.aiger.specs.Text.{vars}
 use Rattle.aiger.specs.Inner.{flattened, has_var, place_at, place_in, place_by}
-use Rattle.aiger.specs.declared.part.Row.{Row}
+use Rattle.aiger.specs.declared.table.Row.{Row}
 use Rattle.aiger.proofs.Threes.{found_some, found_none}
 
 pub place_here : (latches k : ℕ) → k < latches → place_at latches k ≡ here k

@@ -17,7 +17,7 @@ use Rattle.circuit.specs.Loops.{loop_free, round, rounds}
 use Rattle.circuit.proofs.Rounds.{loop_rounds}
 use Rattle.aiger.specs.Text.{vars, gates_of}
 use Rattle.aiger.specs.Inner.{flattened, gate_of}
-use Rattle.aiger.specs.declared.part.Row.{Row}
+use Rattle.aiger.specs.declared.table.Row.{Row}
 use Rattle.aiger.proofs.Threes.{flat_length, threes_next, threes_end, gates_many, outs_rows}
 use Rattle.aiger.proofs.Finding.{both_pass, gate_at}
 

@@ -1,24 +1,18 @@
--- The rows in parts. A slice from a row on is the rest of the rows; rows that were counted have the latches in front, and gates enough for a word
--- behind. Assumes nothing.
-use Prim.Native.Nat.{ℕ, ◌+◌, ◌-◌, ◌*◌, ◌≤◌}
+-- The rows in parts. Rows that were counted have the latches in front, and gates enough for a word behind. Assumes nothing.
+use Prim.Native.Nat.{ℕ, ◌+◌, ◌*◌, ◌≤◌}
 use mathlib.Core.List.{List}
 use mathlib.Core.Path.{◌≡◌, ap, ◌∙◌}
 use native.Mathlib.Omega.{arith}
 use lib.ListN.{length, take, drop, length-drop}
-use lib.Seq.{length-take-le, take_all}
+use lib.Seq.{length-take-le}
 use Rattle.std.specs.List.{list_all}
 use Rattle.aiger.specs.Text.{vars}
-use Rattle.aiger.specs.Inner.{flattened, line_known, all_known, Sized, Fits}
-use Rattle.aiger.specs.declared.part.Row.{Row}
+use Rattle.aiger.specs.Inner.{flattened, line_known, all_known, Sized}
+use Rattle.aiger.specs.Table.{Fits}
+use Rattle.aiger.specs.declared.table.Row.{Row}
 use Rattle.aiger.specs.declared.read.Header.{Header}
 use Rattle.aiger.proofs.Threes.{flat_drop, flat_take}
 use Rattle.aiger.proofs.Finding.{lines_known}
-
-pub rest_slice : (k : ℕ) (rows : List Row) → take (length rows - k) (drop k rows) ≡ drop k rows
-rest_slice k rows = take_all (length rows - k) (drop k rows) (omega (arith, length-drop k rows))
-
-pub flat_rest : (k : ℕ) (rows : List Row) → flattened (take (length rows - k) (drop k rows)) ≡ drop (3 * k) (flattened rows)
-flat_rest k rows = ap flattened (rest_slice k rows) ∙ flat_drop k rows
 
 -- the tests of latches and of gates, by the numbers
 pub latches_known : (rows : List Row) (k : ℕ)
@@ -26,25 +20,23 @@ pub latches_known : (rows : List Row) (k : ℕ)
 latches_known rows k = lines_known (vars (flattened rows)) (take k rows) ∙ ap (all_known (vars (flattened rows))) (flat_take k rows)
 
 pub gates_known : (rows : List Row) (k : ℕ)
-    → list_all (line_known (vars (flattened rows))) (take (length rows - k) (drop k rows))
-    ≡ all_known (vars (flattened rows)) (drop (3 * k) (flattened rows))
-gates_known rows k = lines_known (vars (flattened rows)) (take (length rows - k) (drop k rows)) ∙ ap (all_known (vars (flattened rows))) (flat_rest k rows)
+    → list_all (line_known (vars (flattened rows))) (drop k rows) ≡ all_known (vars (flattened rows)) (drop (3 * k) (flattened rows))
+gates_known rows k = lines_known (vars (flattened rows)) (drop k rows) ∙ ap (all_known (vars (flattened rows))) (flat_drop k rows)
+
+-- rows that fit: so many latches, and gates enough for a word
+module _ {rows : List Row} {latches gates : ℕ} (f : Fits rows latches gates) where
+  pub many_latches : length (take latches rows) ≡ latches
+  many_latches = length-take-le latches rows (omega (arith, f.behind, f.within))
+
+  pub few_gates : length (drop gates rows) ≤ 64
+  few_gates = omega (arith, length-drop gates rows, f.behind, f.wires)
 
 module _ (h : Header) (rows : List Row) (s : Sized h rows) where
-  pub many_latches : length (take h.latches rows) ≡ h.latches
-  many_latches = length-take-le h.latches rows (omega (arith, s.many))
-
-  pub fits : Fits rows h.latches
+  pub fits : Fits rows h.latches (h.latches + h.inputs)
   fits =
       record {
         most = s.limits.latches;
+        behind = omega arith;
         within = omega (arith, s.many);
         wires = omega (arith, s.many, s.limits.wires);
       }
-
-  pub few_gates : length (take (length rows - (h.latches + h.inputs)) (drop (h.latches + h.inputs) rows)) ≤ 64
-  few_gates = rw (rest_slice (h.latches + h.inputs) rows) (omega (arith, length-drop (h.latches + h.inputs) rows, s.many, s.limits.wires))
-
-  -- where the gates begin
-  pub gates_within : h.latches + h.inputs ≤ length rows
-  gates_within = omega (arith, s.many)

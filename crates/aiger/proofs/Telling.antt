@@ -24,7 +24,7 @@ use Rattle.text.specs.Writing.{laid}
 use Rattle.text.proofs.Lines.{line_at, line_end}
 use Rattle.aiger.specs.Text.{Part, broken, whole, begins, magic, most_counts, header_by, header_from, header_of, Told, malformed, behind}
 use Rattle.aiger.specs.Text.{defines, latch_form, uses, singles_of, parts_of, asks_justice, behind_header, lines_tell, tells}
-use Rattle.aiger.specs.declared.part.Row.{Row}
+use Rattle.aiger.specs.declared.table.Row.{Row}
 use Rattle.aiger.proofs.Threes.{flat_length, laid_beyond}
 use Rattle.aiger.specs.Inner.{flattened, Numbered, Small, wrong_form, part_from, Read, Takes, Kept, ReadAs}
 use Rattle.aiger.specs.declared.part.Lines.{Lines}

@@ -19,7 +19,7 @@ use Rattle.circuit.specs.Circuit.{Latch, outs, index}
 use Rattle.circuit.proofs.Lists.{index_lt}
 use Rattle.aiger.specs.Text.{threes, vars, latches_of, gates_of}
 use Rattle.aiger.specs.Inner.{no_row, row_list, flattened, PutsRow, has_var}
-use Rattle.aiger.specs.declared.part.Row.{Row}
+use Rattle.aiger.specs.declared.table.Row.{Row}
 
 -- ---- rows one behind the other: three numbers each, and those from one row on are the rest of the numbers
 pub flat_length : (rows : List Row) → length (flattened rows) ≡ 3 * length rows

@@ -16,7 +16,7 @@ use Rattle.circuit.specs.Circuit.{Latch, first}
 use Rattle.circuit.specs.Import.{Place, here, clause, with_place, flip, marks, empty, mark, start_clauses, latch_clauses, gate_clauses, flat}
 use Rattle.aiger.specs.Text.{latches_of, gates_of}
 use Rattle.aiger.specs.Inner.{no_row, flattened, starting_at, latch_of, gate_of}
-use Rattle.aiger.specs.declared.part.Row.{Row}
+use Rattle.aiger.specs.declared.table.Row.{Row}
 use Rattle.aiger.proofs.Threes.{threes_next}
 
 -- of the masks `all`, all but `rest` were written from index `from` on, and end at index `at`

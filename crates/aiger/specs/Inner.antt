@@ -23,7 +23,8 @@ use Rattle.aiger.specs.Promise as promise
 use Rattle.aiger.specs.Promise.{report_of, entered}
 use Rattle.aiger.specs.declared.Imported.{Imported}
 use Rattle.aiger.specs.declared.part.Form.{Form}
-use Rattle.aiger.specs.declared.part.Row.{Row}
+use Rattle.aiger.specs.declared.table.Rows.{Rows}
+use Rattle.aiger.specs.declared.table.Row.{Row}
 use Rattle.aiger.specs.declared.part.Line.{Line}
 use Rattle.aiger.specs.declared.part.Lines.{Lines}
 use Rattle.aiger.specs.declared.read.Edition.{Edition}
@@ -211,18 +212,22 @@ latch_of next = record { var = 0; next = next; start = 0 }
 abbrev pub gate_of : ℕ → ℕ → ℕ → Gate
 gate_of out left right = record { out = out / 2; left = left; right = right }
 
--- the rows of up to 32 latches and up to 64 wires
-pub record Fits (rows : List Row) (latches : ℕ) : Type 0 where
-  pub most : latches ≤ 32
-  pub within : latches ≤ length rows
-  pub wires : length rows ≤ latches + 64
-
 -- where a variable stands, by its row
 unfoldable pub place_in : List ℕ → ℕ → ℕ → Place
 place_in vs latches v = elim (listed vs v) [ true ↦ place_at latches (index vs v) | false ↦ nowhere ]
 
 abbrev pub place_by : List ℕ → ℕ → ℕ → Place
 place_by rows latches = place_in (vars rows) latches
+
+abbrev pub placed : Rows → ℕ → Place
+placed rows = place_by (flattened rows.all.now) rows.latch_count
+
+-- the numbers of latches and of gates
+abbrev pub latch_rows : Rows → List ℕ
+latch_rows rows = flattened (take rows.latch_count rows.all.now)
+
+abbrev pub gate_rows : Rows → List ℕ
+gate_rows rows = flattened (drop rows.first_gate rows.all.now)
 
 -- whether a latch's start value is not "either"
 abbrev pub is_fixed : Row → Bool
@@ -318,6 +323,11 @@ pub record Sized (h : Header) (rows : List Row) : Type 0 where
   pub limits : Limits h
   pub many : length rows ≡ h.latches + h.inputs + h.gates
 
+-- the rows of a header's circuit
+pub record OfHeader (h : Header) (rows : Rows) : Type 0 where
+  pub latches : rows.latch_count ≡ h.latches
+  pub gates : rows.first_gate ≡ h.latches + h.inputs
+
 -- what is judged: the rows of latches, inputs and gates, and the literals that stand alone
 pub record Held (text : List ℕ) (r : Reading) (rows : List Row) : Type 0 where
   pub inputs : List ℕ
@@ -333,10 +343,10 @@ pub record Held (text : List ℕ) (r : Reading) (rows : List Row) : Type 0 where
 abbrev pub circuit_in : {text : List ℕ} {r : Reading} {rows : List Row} → Held text r rows → Circuit
 circuit_in {r = r} h = circuit_of r.header h.inputs h.latches h.singles h.gates
 
-unfoldable pub wrong_rows : List ℕ → Header → Bool
-wrong_rows rows h =
+unfoldable pub wrong_rows : List ℕ → ℕ → ℕ → Bool
+wrong_rows rows latches gates =
     twice (vars rows)
-    || (not (all_known (vars rows) (take (3 * h.latches) rows)) || not (all_known (vars rows) (drop (3 * (h.latches + h.inputs)) rows)))
+    || (not (all_known (vars rows) (take (3 * latches) rows)) || not (all_known (vars rows) (drop (3 * gates) rows)))
 
 -- the clauses that step and bad share
 abbrev pub shared_count : Header → ℕ

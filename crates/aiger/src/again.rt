@@ -1,12 +1,13 @@
 // Lines that are read again, since there may be any number of them: start values of latches, and literals that stand alone in a line, which are outputs,
 // bad-state lines and constraints one behind the other. Their form is right, so each line has its numbers.
 ghost use Rattle.std.specs.Prelude.{◌≤◌, length};
-ghost use Rattle.aiger.specs.Inner.{flattened, RightStarts, Fits, Watches, Sees};
+ghost use Rattle.aiger.specs.Inner.{flattened, RightStarts, Watches, Sees};
 
 use super::clauses::{no_literal, with_literal};
 use super::find::is_known;
-use super::part::{Row, read_line};
+use super::part::read_line;
 use super::read::Header;
+use super::table::Rows;
 use system::Clause;
 
 // So many lines of one literal, from this index of the text on.
@@ -49,44 +50,44 @@ pub(super) fn wrong_start(text: &[u8], from: usize, count: u64) -> Option<u64>
 }
 
 // Lines of one literal, read again, if all of them are known.
-fn watch(text: &[u8], s: Singles, rows: &[Row], latches: usize) -> Option<Watched>
-    requires { Fits rows.now latches × (s.at ≤ length text.now) }
-    ensures { Watches text.now s (flattened rows.now) latches result }
+fn watch(text: &[u8], s: Singles, rows: Rows) -> Option<Watched>
+    requires { s.at ≤ length text.now }
+    ensures { Watches text.now s (flattened rows.entry.all.now) rows.entry.latch_count result }
 {
     let mut at = s.at;
     let mut clause = no_literal();
     for _ in 0..s.count {
         let line = read_line(text, at);
         let l = line.row.literal;
-        if !is_known(rows, l) {
+        if !is_known(rows.all, l) {
             return None;
         }
-        clause = with_literal(rows, latches, clause, l / 2, l % 2);
+        clause = with_literal(rows, clause, l / 2, l % 2);
         at = line.end;
     }
     Some(Watched { clause, at })
 }
 
 // All lines of one literal, from this index on, if all of them are known.
-pub(super) fn see(text: &[u8], h: Header, at: usize, rows: &[Row], latches: usize) -> Option<Seen>
-    requires { Fits rows.now latches × (at ≤ length text.now) }
-    ensures { Sees text.now h at (flattened rows.now) latches result }
+pub(super) fn see(text: &[u8], h: Header, at: usize, rows: Rows) -> Option<Seen>
+    requires { at ≤ length text.now }
+    ensures { Sees text.now h at (flattened rows.entry.all.now) rows.entry.latch_count result }
 {
     let outputs = Singles {
         at,
         count: h.outputs,
     };
-    let output = watch(text, outputs, rows, latches)?;
+    let output = watch(text, outputs, rows)?;
     let bads = Singles {
         at: output.at,
         count: h.bads,
     };
-    let bad = watch(text, bads, rows, latches)?;
+    let bad = watch(text, bads, rows)?;
     let constraints = Singles {
         at: bad.at,
         count: h.constraints,
     };
-    watch(text, constraints, rows, latches)?;
+    watch(text, constraints, rows)?;
     let watched = if h.bads == 0 {
         output.clause
     } else {

@@ -4,12 +4,13 @@ ghost use Rattle.std.specs.Prelude.{[], ◌∷◌, ◌≡◌, ◌+◌, ◌*◌, 
 ghost use Rattle.text.specs.Writing.{Writes};
 ghost use Rattle.circuit.specs.Import.{here, with_place, empty, mark, start_clauses, latch_clauses, gate_clauses, flat};
 ghost use Rattle.aiger.specs.Text.{latches_of, gates_of};
-ghost use Rattle.aiger.specs.Inner.{flattened, place_at, place_by, starting_at, latch_of, gate_of, Fits, start_list, is_fixed, Entered};
+ghost use Rattle.aiger.specs.Inner.{flattened, latch_rows, gate_rows, place_at, placed, starting_at, latch_of, gate_of, start_list, is_fixed, Entered};
 ghost use Rattle.aiger.specs.Inner.{PutsConstraints, EntersStep, EntersBad};
 
 use super::again::Singles;
 use super::find::find;
-use super::part::{Row, read_line};
+use super::part::read_line;
+use super::table::{Row, Rows};
 use masks::Mask;
 use system::Clause;
 
@@ -49,12 +50,11 @@ fn with_row(m: Mask, k: usize, latches: usize) -> Mask
 }
 
 // A literal more in a clause. A variable without a row is false: its literal is dropped, and the inverted one makes the clause always true.
-pub(super) fn with_literal(rows: &[Row], latches: usize, m: Clause, v: u64, sign: u64) -> Clause
-    requires { Fits rows.now latches }
-    ensures { result ≡ mark (place_by (flattened rows.now) latches v) sign m }
+pub(super) fn with_literal(rows: Rows, m: Clause, v: u64, sign: u64) -> Clause
+    ensures { result ≡ mark (placed rows.entry v) sign m }
 {
     let Clause { ones, zeros } = m;
-    let Some(k) = find(rows, v) else {
+    let Some(k) = find(rows.all, v) else {
         if sign == 0 {
             return m;
         }
@@ -65,17 +65,19 @@ pub(super) fn with_literal(rows: &[Row], latches: usize, m: Clause, v: u64, sign
     };
     if sign == 0 {
         return Clause {
-            ones: with_row(ones, k, latches),
+            ones: with_row(ones, k, rows.latch_count),
             zeros,
         };
     }
     Clause {
         ones,
-        zeros: with_row(zeros, k, latches),
+        zeros: with_row(zeros, k, rows.latch_count),
     }
 }
 
 // One number at this index, if the store reaches so far.
+// Stays: `text::put` does the same with bytes. `laid`, on which the public promises of both rest, is of numbers; one function of both types would need a
+// trait whose law says what number each value is, and is no plainer.
 fn put(store: &mut [u64], at: usize, x: u64) -> usize
     requires { at < 2 ^ 63 }
     ensures { Writes at (x ∷ []) store.old result store.new }
@@ -141,24 +143,17 @@ pub(super) fn fixed_starts(latches: &[Row]) -> usize
 }
 
 // The two clauses of latch k: its bit one step later equals the literal.
-fn put_latch(
-    rows: &[Row],
-    latches: usize,
-    k: usize,
-    next: u64,
-    store: &mut [u64],
-    at: usize,
-) -> usize
-    requires { Fits rows.now latches × (k < 32) × (at < 2 ^ 32) }
-    ensures { Writes at (flat (latch_clauses (place_by (flattened rows.now) latches) k (latch_of next ∷ []))) store.old result store.new }
+fn put_latch(rows: Rows, k: usize, next: u64, store: &mut [u64], at: usize) -> usize
+    requires { (k < 32) × (at < 2 ^ 32) }
+    ensures { Writes at (flat (latch_clauses (placed rows.entry) k (latch_of next ∷ []))) store.old result store.new }
 {
-    let Clause { ones, zeros } = with_literal(rows, latches, no_literal(), next / 2, 1 - next % 2);
+    let Clause { ones, zeros } = with_literal(rows, no_literal(), next / 2, 1 - next % 2);
     let m = Clause {
         ones: with_bit(ones, 32 + k),
         zeros,
     };
     let at = put_clause(store, at, m);
-    let Clause { ones, zeros } = with_literal(rows, latches, no_literal(), next / 2, next % 2);
+    let Clause { ones, zeros } = with_literal(rows, no_literal(), next / 2, next % 2);
     let m = Clause {
         ones,
         zeros: with_bit(zeros, 32 + k),
@@ -167,66 +162,60 @@ fn put_latch(
 }
 
 // Step: two clauses a latch.
-fn put_latches(rows: &[Row], latches: &[Row], store: &mut [u64]) -> usize
-    requires { Fits rows.now (length latches.now) }
-    ensures { Writes 0 (flat (latch_clauses (place_by (flattened rows.now) (length latches.now)) 0 (latches_of (flattened latches.now)))) store.old result store.new }
+fn put_latches(rows: Rows, store: &mut [u64]) -> usize
+    ensures { Writes 0 (flat (latch_clauses (placed rows.entry) 0 (latches_of (latch_rows rows.entry)))) store.old result store.new }
 {
+    let latches = rows.latches();
     let mut at = 0;
     for (k, latch) in latches.iter().enumerate() {
-        at = put_latch(rows, latches.len(), k, latch.second, store, at);
+        at = put_latch(rows, k, latch.second, store, at);
     }
     at
 }
 
 // The three clauses of a gate.
-fn put_gate(rows: &[Row], latches: usize, gate: Row, store: &mut [u64], at: usize) -> usize
-    requires { Fits rows.now latches × (at < 2 ^ 32) }
-    ensures { Writes at (flat (gate_clauses (place_by (flattened rows.now) latches) (gate_of gate.literal gate.second gate.third ∷ []))) store.old result store.new }
+fn put_gate(rows: Rows, gate: Row, store: &mut [u64], at: usize) -> usize
+    requires { at < 2 ^ 32 }
+    ensures { Writes at (flat (gate_clauses (placed rows.entry) (gate_of gate.literal gate.second gate.third ∷ []))) store.old result store.new }
 {
     let out = gate.literal;
     let left = gate.second;
     let right = gate.third;
-    let not_out = with_literal(rows, latches, no_literal(), out / 2, 1);
-    let m = with_literal(rows, latches, not_out, left / 2, left % 2);
+    let not_out = with_literal(rows, no_literal(), out / 2, 1);
+    let m = with_literal(rows, not_out, left / 2, left % 2);
     let at = put_clause(store, at, m);
-    let m = with_literal(rows, latches, not_out, right / 2, right % 2);
+    let m = with_literal(rows, not_out, right / 2, right % 2);
     let at = put_clause(store, at, m);
-    let m = with_literal(rows, latches, no_literal(), out / 2, 0);
-    let m = with_literal(rows, latches, m, left / 2, 1 - left % 2);
-    let m = with_literal(rows, latches, m, right / 2, 1 - right % 2);
+    let m = with_literal(rows, no_literal(), out / 2, 0);
+    let m = with_literal(rows, m, left / 2, 1 - left % 2);
+    let m = with_literal(rows, m, right / 2, 1 - right % 2);
     put_clause(store, at, m)
 }
 
 // Three clauses a gate.
-fn put_gates(rows: &[Row], latches: usize, gates: &[Row], store: &mut [u64], from: usize) -> usize
-    requires { Fits rows.now latches × (length gates.now ≤ 64) × (from < 2 ^ 16) }
-    ensures { Writes from (flat (gate_clauses (place_by (flattened rows.now) latches) (gates_of (flattened gates.now)))) store.old result store.new }
+fn put_gates(rows: Rows, store: &mut [u64], from: usize) -> usize
+    requires { from < 2 ^ 16 }
+    ensures { Writes from (flat (gate_clauses (placed rows.entry) (gates_of (gate_rows rows.entry)))) store.old result store.new }
 {
+    let gates = rows.gates();
     let mut at = from;
     for gate in gates {
-        at = put_gate(rows, latches, *gate, store, at);
+        at = put_gate(rows, *gate, store, at);
     }
     at
 }
 
 // One clause a constraint; their lines are read again.
-fn put_constraints(
-    text: &[u8],
-    c: Singles,
-    rows: &[Row],
-    latches: usize,
-    store: &mut [u64],
-    from: usize,
-) -> usize
-    requires { Fits rows.now latches × (c.at ≤ length text.now) × (c.count ≤ 4096) × (from < 2 ^ 16) }
-    ensures { PutsConstraints text.now c (place_by (flattened rows.now) latches) from store.old result store.new }
+fn put_constraints(text: &[u8], c: Singles, rows: Rows, store: &mut [u64], from: usize) -> usize
+    requires { (c.at ≤ length text.now) × (c.count ≤ 4096) × (from < 2 ^ 16) }
+    ensures { PutsConstraints text.now c (placed rows.entry) from store.old result store.new }
 {
     let mut at = c.at;
     let mut next = from;
     for _ in 0..c.count {
         let line = read_line(text, at);
         let l = line.row.literal;
-        let m = with_literal(rows, latches, no_literal(), l / 2, l % 2);
+        let m = with_literal(rows, no_literal(), l / 2, l % 2);
         next = put_clause(store, next, m);
         at = line.end;
     }
@@ -234,31 +223,22 @@ fn put_constraints(
 }
 
 // The list of start in front of its store, and zeros behind it; how many masks it has.
-pub(super) fn enter_start(latches: &[Row], store: &mut [u64]) -> usize
-    requires { length latches.now ≤ 32 }
-    ensures { Entered (start_list (flattened latches.now)) store.old result store.new }
+pub(super) fn enter_start(rows: Rows, store: &mut [u64]) -> usize
+    ensures { Entered (start_list (latch_rows rows.entry)) store.old result store.new }
 {
-    let end = put_start(latches, store);
+    let end = put_start(rows.latches(), store);
     stores::clear_behind(store, end);
     end
 }
 
 // The list of step: two clauses a latch, then three a gate and one a constraint.
-pub(super) fn enter_step(
-    text: &[u8],
-    c: Singles,
-    rows: &[Row],
-    latches: &[Row],
-    gates: &[Row],
-    store: &mut [u64],
-) -> usize
-    requires { Fits rows.now (length latches.now) × (length gates.now ≤ 64) × (c.at ≤ length text.now) × (c.count ≤ 4096) }
-    ensures { EntersStep text.now c (flattened rows.now) (flattened latches.now) (flattened gates.now) store.old result store.new }
+pub(super) fn enter_step(text: &[u8], c: Singles, rows: Rows, store: &mut [u64]) -> usize
+    requires { (c.at ≤ length text.now) × (c.count ≤ 4096) }
+    ensures { EntersStep text.now c (flattened rows.entry.all.now) (latch_rows rows.entry) (gate_rows rows.entry) store.old result store.new }
 {
-    let count = latches.len();
-    let end = put_latches(rows, latches, store);
-    let end = put_gates(rows, count, gates, store, end);
-    let end = put_constraints(text, c, rows, count, store, end);
+    let end = put_latches(rows, store);
+    let end = put_gates(rows, store, end);
+    let end = put_constraints(text, c, rows, store, end);
     stores::clear_behind(store, end);
     end
 }
@@ -267,18 +247,16 @@ pub(super) fn enter_step(
 pub(super) fn enter_bad(
     text: &[u8],
     c: Singles,
-    rows: &[Row],
-    latches: usize,
-    gates: &[Row],
+    rows: Rows,
     watched: Clause,
     store: &mut [u64],
 ) -> usize
-    requires { Fits rows.now latches × (length gates.now ≤ 64) × (c.at ≤ length text.now) × (c.count ≤ 4096) }
-    ensures { EntersBad text.now c (flattened rows.now) latches (flattened gates.now) watched store.old result store.new }
+    requires { (c.at ≤ length text.now) × (c.count ≤ 4096) }
+    ensures { EntersBad text.now c (flattened rows.entry.all.now) rows.entry.latch_count (gate_rows rows.entry) watched store.old result store.new }
 {
-    let end = put_clause(store, 0, watched);
-    let end = put_gates(rows, latches, gates, store, end);
-    let end = put_constraints(text, c, rows, latches, store, end);
+    let front = put_clause(store, 0, watched);
+    let front = put_gates(rows, store, front);
+    let end = put_constraints(text, c, rows, store, front);
     stores::clear_behind(store, end);
     end
 }

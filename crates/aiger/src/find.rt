@@ -8,7 +8,7 @@ ghost use Rattle.circuit.specs.Refusals.{twice};
 ghost use Rattle.aiger.specs.Text.{vars, gates_of};
 ghost use Rattle.aiger.specs.Inner.{flattened, has_var, known_in, line_known, LoopFree};
 
-use super::part::Row;
+use super::table::Row;
 
 // The first row of a variable.
 pub(super) fn find(rows: &[Row], v: u64) -> Option<usize>

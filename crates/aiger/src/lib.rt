@@ -11,21 +11,22 @@ mod find;
 mod numbers;
 mod part;
 mod read;
+mod table;
 
 ghost use Rattle.std.specs.Prelude.{◌≡◌, ◌≤◌, length};
 ghost use Rattle.stores.specs.Lists.{lists};
 ghost use Rattle.aiger.specs.Text.{first_edition, newer_edition};
 ghost use Rattle.base.specs.Numbers.{code_of};
 ghost use Rattle.aiger.specs.Promise.{Imports, report_of};
-ghost use Rattle.aiger.specs.Inner.{flattened, newer_in, Small, too_few, header_refusal, FaultOf, Limits, Sized, Held, wrong_rows, short, last_refusal, Enters, Judges};
+ghost use Rattle.aiger.specs.Inner.{flattened, newer_in, Small, too_few, header_refusal, FaultOf, Limits, OfHeader, Held, wrong_rows, short, last_refusal, Enters, Judges};
 
 use again::{Singles, see, wrong_start};
 use base::{Fault, Refusal};
 use clauses::{enter_bad, enter_start, enter_step, fixed_starts};
 use find::{all_known, defined_twice, loop_free};
-use part::Row;
 use read::{Edition, Header, Reading, read};
 use system::Clause;
+use table::{Row, Rows};
 
 // n, w and the counts of masks.
 #[derive(Clone, Copy, Debug, PartialEq, Eq)]
@@ -113,25 +114,25 @@ fn last_refusal(
 }
 
 // The lists, each in front of its store and zeros behind it.
+// Stays: start, step and bad as one struct of three `&mut` would be taken apart at once in each of the three functions that lend it on, and no contract of
+// the callers, `import` and `import_newer`, could name it: it is no plainer.
 fn enter(
     text: &[u8],
     c: Singles,
-    rows: &[Row],
+    rows: Rows,
     h: Header,
     watched: Clause,
     start: &mut [u64],
     step: &mut [u64],
     bad: &mut [u64],
 ) -> Imported
-    requires { Sized h rows.now × (c.at ≤ length text.now) × (c.count ≤ 4096) }
-    ensures { Enters text.now c (flattened rows.now) h watched (lists start.old step.old bad.old)
+    requires { OfHeader h rows × Limits h × (c.at ≤ length text.now) × (c.count ≤ 4096) }
+    ensures { Enters text.now c (flattened rows.entry.all.now) h watched (lists start.old step.old bad.old)
         result (lists start.new step.new bad.new) }
 {
-    let gates = &rows[(h.latches + h.inputs) as usize..];
-    let latches = &rows[..h.latches as usize];
-    let i = enter_start(latches, start);
-    let t = enter_step(text, c, rows, latches, gates, step);
-    let b = enter_bad(text, c, rows, h.latches as usize, gates, watched, bad);
+    let i = enter_start(rows, start);
+    let t = enter_step(text, c, rows, step);
+    let b = enter_bad(text, c, rows, watched, bad);
     Imported {
         n: h.latches as u32,
         w: (h.inputs + h.gates) as u32,
@@ -142,13 +143,11 @@ fn enter(
 }
 
 // Refusal 24: a variable is defined twice, or used by a latch or a gate and not defined.
-fn wrong_rows(rows: &[Row], h: Header) -> bool
-    requires { Sized h rows.now }
-    ensures { result ≡ wrong_rows (flattened rows.now) h }
+fn wrong_rows(rows: Rows) -> bool
+    ensures { result ≡ wrong_rows (flattened rows.entry.all.now) rows.entry.latch_count rows.entry.first_gate }
 {
-    let gates = &rows[(h.latches + h.inputs) as usize..];
-    let latches = &rows[..h.latches as usize];
-    defined_twice(rows) || (!all_known(rows, latches) || !all_known(rows, gates))
+    defined_twice(rows.all)
+        || (!all_known(rows.all, rows.latches()) || !all_known(rows.all, rows.gates()))
 }
 
 // Refusals from 24 on, where the header is right; the lists where there is none.
@@ -165,17 +164,21 @@ fn judge(
         result (lists start.new step.new bad.new) }
 {
     let h = r.header;
-    if wrong_rows(rows, h) {
+    let rows = Rows {
+        all: rows,
+        latch_count: h.latches as usize,
+        first_gate: (h.latches + h.inputs) as usize,
+    };
+    if wrong_rows(rows) {
         return Err(Refusal::Variables);
     }
-    let Some(seen) = see(text, h, r.singles, rows, h.latches as usize) else {
+    let Some(seen) = see(text, h, r.singles, rows) else {
         return Err(Refusal::Variables);
     };
-    if !loop_free(&rows[(h.latches + h.inputs) as usize..]) {
+    if !loop_free(rows.gates()) {
         return Err(Refusal::Loop);
     }
-    let latches = &rows[..h.latches as usize];
-    last_refusal(h, latches, start.len(), step.len(), bad.len())?;
+    last_refusal(h, rows.latches(), start.len(), step.len(), bad.len())?;
     Ok(enter(
         text,
         seen.constraints,

@@ -3,6 +3,7 @@ ghost use Rattle.std.specs.Prelude.{◌≡◌, ◌+◌, ◌≤◌, ◌<◌, ◌^
 ghost use Rattle.aiger.specs.Inner.{count_fits, Fine, PutsRow, ReadsLine, TakesLine, wrong_form, Begins, Takes};
 
 use super::numbers::numbers;
+use super::table::Row;
 use base::{Fault, Refusal};
 
 // What a line has to be: how many literals it has, whether a start value may stand behind them, whether the first defines a variable, and the largest
@@ -13,14 +14,6 @@ pub(super) struct Form {
     pub(super) starts: bool,
     pub(super) defines: bool,
     pub(super) most: u64,
-}
-
-// The three numbers of a line, 0 where it has fewer: of a latch its literal, the next one and the start value, of a gate its literal and two more.
-#[derive(Clone, Copy)]
-pub(super) struct Row {
-    pub(super) literal: u64,
-    pub(super) second: u64,
-    pub(super) third: u64,
 }
 
 // A line that was read: how many numbers it has, if it is numbers and not more than three, these, and where it ends.

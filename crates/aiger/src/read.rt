@@ -7,7 +7,8 @@ ghost use Rattle.aiger.specs.Text.{most_counts, parts_of, behind_header, tells};
 ghost use Rattle.aiger.specs.Inner.{newer_in, HeadOf, Small, most_rows, ReadAs};
 
 use super::numbers::numbers;
-use super::part::{Form, Lines, Row, take_part, wrong_form};
+use super::part::{Form, Lines, take_part, wrong_form};
+use super::table::Row;
 use base::{Fault, Refusal};
 
 // The first edition takes the fewer counts, and no start values.
@@ -111,6 +112,7 @@ fn read_parts(text: &[u8], at: usize, h: Header, rows: &mut [Row]) -> Result<Rea
         row: 0,
     };
     let singles_at = take_part(text, latches_at, latches, rows)?;
+    // Their rows would stand behind the store, and so are not kept.
     let singles = Lines {
         form: Form {
             defines: false,

@@ -4,7 +4,7 @@ use mathlib.Core.Bool.{Bool, true, false, not, ◌||◌}
 use mathlib.Core.Path.{◌≡◌, refl, sym, ◌∙◌}
 use native.Mathlib.Omega.{arith}
 use Rattle.std.proofs.lemmas.Result.{err_from_is_err_and}
-use Rattle.aiger.proofs.Slices.{fits, few_gates, gates_within, many_latches}
+use Rattle.aiger.proofs.Slices.{fits, few_gates, many_latches}
 use Rattle.aiger.proofs.Judging.{held_sized, held_loops, number_24, number_25, number_last, last_few, last_room, last_none, last_found, last_other}
 use Rattle.aiger.proofs.Listing.{enters_system}
 use Rattle.aiger.proofs.judge.Goals as goal
@@ -19,15 +19,15 @@ unknown_24 a k e f = rw (e, f)
 right_24 : (a k : Bool) → a ≡ false → k ≡ true → (a || not k) ≡ false
 right_24 a k e f = rw (e, f)
 
-pub wrong_rows-requires : goal.wrong_rows-requires
-wrong_rows-requires c = held_sized c.requires
+pub invariant_of-rows : goal.invariant_of-rows
+invariant_of-rows c = record { fits = fits _ _ (held_sized c.requires) }
 
 pub returns-then-wrong_rows : goal.returns-then-wrong_rows
 returns-then-wrong_rows c h =
     (number_24 h _ _ _ (wrong_24 _ _ (sym c.wrong_rows.ensures ∙ c.if-wrong_rows.true)), λ e. omega arith, refl)
 
 pub see-requires : goal.see-requires
-see-requires c = (fits _ _ (held_sized c.requires), c.requires.counted.singles_again.1.within)
+see-requires c = c.requires.counted.singles_again.1.within
 
 pub returns-in_default : goal.returns-in_default
 returns-in_default c h = (
@@ -38,39 +38,31 @@ returns-in_default c h = (
 )
 
 pub loop_free-requires : goal.loop_free-requires
-loop_free-requires c = few_gates _ _ (held_sized c.requires)
+loop_free-requires c = rw c.gates.ensures (few_gates (fits _ _ (held_sized c.requires)))
 
 pub returns-then-not-loop_free : goal.returns-then-not-loop_free
 returns-then-not-loop_free c h =
     let fine = sym c.wrong_rows.ensures ∙ c.if-wrong_rows.false in (
       number_25 h _ _ _ (right_24 _ _ fine (c.in-Some.ensures.says _ refl h.singles h.counted.singles_again).0)
-          (sym (held_loops h fine _ c.loop_free.ensures) ∙ c.if-not-loop_free.true),
+          (sym (held_loops h fine _ (rw c.gates.ensures at c.loop_free.ensures)) ∙ c.if-not-loop_free.true),
       λ e. omega arith,
       refl,
     )
 
-pub slice_bounds-loop_free-start : goal.slice_bounds-loop_free-start
-slice_bounds-loop_free-start c = gates_within _ _ (held_sized c.requires)
-
-pub slice_bounds-loop_free-count : goal.slice_bounds-loop_free-count
-slice_bounds-loop_free-count c = gates_within _ _ (held_sized c.requires)
-
-pub slice_bounds-latches-end : goal.slice_bounds-latches-end
-slice_bounds-latches-end c = sym (many_latches _ _ (held_sized c.requires))
-
 pub last_refusal-requires : goal.last_refusal-requires
 last_refusal-requires c =
     let sized = held_sized c.requires in
-    (c.requires.counted.small, sized.limits, omega (arith, many_latches _ _ sized, sized.limits))
+    let few = many_latches (fits _ _ sized) in
+    (c.requires.counted.small, sized.limits, rw c.latches.ensures (omega (arith, few, sized.limits.latches)))
 
 pub returns-in_err-last_refusal : goal.returns-in_err-last_refusal
 returns-in_err-last_refusal c h =
     let fine = sym c.wrong_rows.ensures ∙ c.if-wrong_rows.false in
     let p = err_from_is_err_and c.from_residual.result c.from_residual.ensures.1 in
-    let found = c.in_err-last_refusal.ensures in
+    let found = rw c.latches.ensures at c.in_err-last_refusal.ensures in
     rw (p.1, p.2) (
       number_last h _ _ _ (right_24 _ _ fine (c.in-Some.ensures.says _ refl h.singles h.counted.singles_again).0)
-          (sym (held_loops h fine _ c.loop_free.ensures) ∙ c.if-not-loop_free.false)
+          (sym (held_loops h fine _ (rw c.gates.ensures at c.loop_free.ensures)) ∙ c.if-not-loop_free.false)
           ∙ sym (last_found h _ _ _ _ found),
       last_other h _ _ _ _ found,
       refl,
@@ -79,15 +71,15 @@ returns-in_err-last_refusal c h =
 pub enter-requires : goal.enter-requires
 enter-requires c =
     let h = c.requires in
-    let none = last_none h _ _ _ 0 c.in_ok-last_refusal.ensures refl in
-    (held_sized h, (c.in-Some.ensures.within _ refl).0, omega (arith, (c.in-Some.ensures.within _ refl).1, last_few h _ _ _ none))
+    let none = last_none h _ _ _ 0 (rw c.latches.ensures at c.in_ok-last_refusal.ensures) refl in
+    (record { latches = refl; gates = refl }, (held_sized h).limits, (c.in-Some.ensures.within _ refl).0, omega (arith, (c.in-Some.ensures.within _ refl).1, last_few h _ _ _ none))
 
 pub returns : goal.returns
 returns c h =
     let fine = sym c.wrong_rows.ensures ∙ c.if-wrong_rows.false in
     let seen = c.in-Some.ensures.says _ refl h.singles h.counted.singles_again in
-    let none = last_none h _ _ _ 0 c.in_ok-last_refusal.ensures refl in (
-      number_last h _ _ _ (right_24 _ _ fine seen.0) (sym (held_loops h fine _ c.loop_free.ensures) ∙ c.if-not-loop_free.false)
+    let none = last_none h _ _ _ 0 (rw c.latches.ensures at c.in_ok-last_refusal.ensures) refl in (
+      number_last h _ _ _ (right_24 _ _ fine seen.0) (sym (held_loops h fine _ (rw c.gates.ensures at c.loop_free.ensures)) ∙ c.if-not-loop_free.false)
           ∙ none,
       enters_system h _ (last_room h _ _ _ none) _ _ _ _ c.enter.ensures seen.1 seen.2,
     )

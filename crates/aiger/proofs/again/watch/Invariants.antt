@@ -2,10 +2,10 @@
 -- in front are known, and what is said of all is said of what was gathered and of the rest. Assumes nothing.
 use Prim.Native.Nat.{◌-◌, ◌≤◌}
 use lib.ListN.{length}
-use Rattle.aiger.specs.Inner.{flattened, Fits}
+use Rattle.aiger.specs.Inner.{flattened}
 use Rattle.aiger.proofs.Rereading.{Gathering}
 use Rattle.aiger.proofs.again.watch.Given as goal
 
 abbrev pub invariant-loop : goal.invariant-loop
-invariant-loop l = (l.at ≤ length l.text) × Fits l.rows l.latches
-    × Gathering l.text (flattened l.rows) l.latches l.initial.at l.initial.end l.at (l.initial.end - l.counter) l.clause
+invariant-loop l = (l.at ≤ length l.text)
+    × Gathering l.text (flattened l.rows.all.now) l.rows.latch_count l.initial.at l.initial.end l.at (l.initial.end - l.counter) l.clause
