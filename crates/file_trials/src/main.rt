@@ -8,6 +8,10 @@
 ghost use Rattle.std.specs.Prelude.{◌^◌, ◌≤◌, ◌<◌};
 ghost use Rattle.file_trials.specs.declared.TheConstants.{TEXT};
 
+use aiger::Imported;
+use base::Fault;
+use counts::write_number;
+
 // How many pieces may come. There are fewer.
 const PIECES: u32 = 100000;
 
@@ -89,24 +93,34 @@ fn sum<const PRIME: u64>(store: &[u64]) -> u64
     sum
 }
 
-fn write_next(x: u64) {
-    io::write_all(1, b" ");
-    io::print_decimal(1, x);
-}
-
 fn write_sums(store: &[u64]) {
-    write_next(sum::<P>(store));
-    write_next(sum::<Q>(store));
+    write_number(b" ", sum::<P>(store));
+    write_number(b" ", sum::<Q>(store));
 }
 
-fn write_imported(r: aiger::Imported) {
-    io::print_decimal(1, u64::from(r.number));
-    write_next(r.line as u64);
-    write_next(u64::from(r.n));
-    write_next(u64::from(r.w));
-    write_next(r.start as u64);
-    write_next(r.step as u64);
-    write_next(r.bad as u64);
+// The number of the refusal and its line, 0 if there is none; and what was imported, 0 after a refusal.
+fn write_imported(r: Result<Imported, Fault>) {
+    let (refusal, others): (u64, [u64; 6]) = match r {
+        Ok(i) => (
+            0,
+            [
+                0,
+                u64::from(i.n),
+                u64::from(i.w),
+                i.start as u64,
+                i.step as u64,
+                i.bad as u64,
+            ],
+        ),
+        Err(fault) => (
+            u64::from(u32::from(fault.refusal)),
+            [fault.line as u64, 0, 0, 0, 0, 0],
+        ),
+    };
+    write_number(b"", refusal);
+    for x in others {
+        write_number(b" ", x);
+    }
 }
 
 // By which reader a circuit is imported.
@@ -148,7 +162,7 @@ impl Edition {
         start: &mut [u64],
         step: &mut [u64],
         bad: &mut [u64],
-    ) -> aiger::Imported {
+    ) -> Result<Imported, Fault> {
         match self {
             Edition::First => aiger::import(text, start, step, bad),
             Edition::Newer => aiger::import_newer(text, start, step, bad),
