@@ -15,8 +15,8 @@ use Rattle.system.specs.System.{System, model}
 use Rattle.call.specs.Call.{Stores, rounds}
 use Rattle.call.proofs.Call.{Lengths}
 use Rattle.search.specs.declared.store.Lent.{Lent}
-use Rattle.search.specs.Lent.{SameSlices, stores_of, store_of, config, config_of}
-use Rattle.search.specs.Inner.{Asks, Raises, Lends, Ready, Moves, Ends}
+use Rattle.search.specs.Lent.{stores_of, store_of, config, config_of}
+use Rattle.search.specs.Inner.{SameSlices, Asks, Raises, Lends, Ready, Moves, Ends}
 use Rattle.search.specs.declared.react.Verdict.{Verdict}
 use Rattle.search.specs.declared.react.Why.TheVariants.{Spent}
 use Rattle.search.specs.declared.react.Verdict.TheVariants.{GaveUp}

@@ -9,11 +9,22 @@ use Rattle.call.specs.Call.{Stores, ended, rounds}
 use Rattle.call.specs.Promise.{count_of, result_of}
 use Rattle.call.specs.declared.Outcome.{Outcome}
 use Rattle.search.specs.Lent.{window, store_of, config_of, verdict_of, move_of}
+use Rattle.search.specs.declared.store.Lent.{Lent}
 use Rattle.search.specs.declared.react.Phase.{Phase}
 use Rattle.search.specs.declared.react.Phase.TheVariants.{Look, Settle, Raise}
 use Rattle.search.specs.declared.react.Config.{Config}
 use Rattle.search.specs.declared.react.Verdict.{Verdict}
 use Rattle.search.specs.declared.react.Verdict.TheVariants.{Safe, Unsafe, GaveUp}
+
+-- ---- the lent stores
+-- after is lent the same three slices as before, with whatever content
+pub record SameSlices (before after : Lent) : Type 0 where
+  pub states : after.states.ghost_name ≡ before.states.ghost_name
+  pub levels : after.levels.ghost_name ≡ before.levels.ghost_name
+  pub path : after.path.ghost_name ≡ before.path.ghost_name
+  pub states_length : length after.states.now ≡ length before.states.now
+  pub levels_length : length after.levels.now ≡ length before.levels.now
+  pub path_length : length after.path.now ≡ length before.path.now
 
 -- ---- the store
 -- `count` entries, in a state store and a level store of one length

@@ -1,7 +1,7 @@
 -- The definition's configurations and moves, read out of the code's records and the lent stores: what is to be believed of a run while it goes
 -- on. The store is the first `count` entries of the state store and the level store. The open duties stand in the path store, that of level k at
 -- index k.
-use Rattle.std.specs.Prelude.{ℕ, zero, suc, ◌-◌, List, [], ◌∷◌, ◌≡◌, eqb, leb, length, get_or}
+use Rattle.std.specs.Prelude.{ℕ, zero, suc, ◌-◌, List, [], ◌∷◌, eqb, leb, get_or}
 use Rattle.std.specs.declared.ops.ControlFlow.{ControlFlow}
 use Rattle.std.specs.declared.ops.ControlFlow.TheVariants.{Continue, Break}
 use Rattle.ic3.specs.Search.{Entry, look, settle, raise, at, no_room, spent, no_start, safe, unsafe, gave_up, go, stop, states}
@@ -20,15 +20,6 @@ use Rattle.search.specs.declared.react.Verdict.TheVariants.{Safe, Unsafe, GaveUp
 -- what the lent stores hold
 abbrev pub stores_of : Lent → Stores
 stores_of s = stores s.states.now s.levels.now s.path.now
-
--- after is lent the same three slices as before, with whatever content
-pub record SameSlices (before after : Lent) : Type 0 where
-  pub states : after.states.ghost_name ≡ before.states.ghost_name
-  pub levels : after.levels.ghost_name ≡ before.levels.ghost_name
-  pub path : after.path.ghost_name ≡ before.path.ghost_name
-  pub states_length : length after.states.now ≡ length before.states.now
-  pub levels_length : length after.levels.now ≡ length before.levels.now
-  pub path_length : length after.path.now ≡ length before.path.now
 
 -- the `left` entries from index i on
 unfoldable pub window : ℕ → ℕ → List ℕ → List ℕ → List Entry

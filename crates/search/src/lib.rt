@@ -12,8 +12,8 @@ ghost use Rattle.std.specs.Prelude.{◌≡◌, take};
 ghost use Rattle.system.specs.Lent.{system_in};
 ghost use Rattle.call.specs.Call.{leaves};
 ghost use Rattle.call.specs.Promise.{stores, Promised};
-ghost use Rattle.search.specs.Lent.{SameSlices, stores_of};
-ghost use Rattle.search.specs.Inner.{Finishes, Closing, Closes};
+ghost use Rattle.search.specs.Lent.{stores_of};
+ghost use Rattle.search.specs.Inner.{SameSlices, Finishes, Closing, Closes};
 
 use react::Verdict;
 use store::Lent;
@@ -40,25 +40,21 @@ impl Lent<'_> {
         ensures slices { SameSlices self.old self.new }
     {
         let questions = ending.questions;
-        let verdict = ending.verdict;
-        let mut front = 0;
-        let mut len = 0;
-        let mut outcome = call::Outcome::GaveUp(5, questions);
-        match verdict {
+        match ending.verdict {
             Verdict::Safe(i, count) => {
-                front = self.keep(count, i);
-                outcome = call::Outcome::Safe(front, questions);
+                let front = self.keep(count, i);
+                self.finish(front, 0);
+                call::Outcome::Safe(front, questions)
             }
-            Verdict::Unsafe(k) => {
-                len = k;
-                outcome = call::Outcome::Unsafe(k, questions);
+            Verdict::Unsafe(len) => {
+                self.finish(0, len);
+                call::Outcome::Unsafe(len, questions)
             }
             Verdict::GaveUp(why) => {
-                outcome = call::Outcome::GaveUp(why.into(), questions);
+                self.finish(0, 0);
+                call::Outcome::GaveUp(why.into(), questions)
             }
         }
-        self.finish(front, len);
-        outcome
     }
 }
 

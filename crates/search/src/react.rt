@@ -6,8 +6,8 @@ ghost use Rattle.std.specs.declared.ops.ControlFlow.TheVariants.{Continue};
 ghost use Rattle.ic3.specs.Search as ic3;
 ghost use Rattle.ic3.specs.Shape.{Tidy};
 ghost use Rattle.call.specs.Call.{Stores, rounds, why_number};
-ghost use Rattle.search.specs.Lent.{SameSlices, stores_of, store_of, store_in, duties, config, why_of};
-ghost use Rattle.search.specs.Inner.{Opens, Blocks, Judges, Enters, Tests, Moves, tested_from};
+ghost use Rattle.search.specs.Lent.{stores_of, store_of, store_in, duties, config, why_of};
+ghost use Rattle.search.specs.Inner.{SameSlices, Opens, Blocks, Judges, Enters, Tests, Moves, tested_from};
 
 use super::store::Lent;
 use std::ops::ControlFlow::{self, Break, Continue};

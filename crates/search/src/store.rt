@@ -3,8 +3,7 @@
 // walk that finds nothing say `None`. Every method requires that the entries lie within the lent stores, which holds for a search that was not refused.
 ghost use Rattle.std.specs.Prelude.{◌≡◌, ◌≤◌, ◌↔◌, IsTrue, position, length, take};
 ghost use Rattle.std.specs.List.{Any};
-ghost use Rattle.search.specs.Lent.{SameSlices};
-ghost use Rattle.search.specs.Inner.{Holds, Walks, Judges, First, KeptAs, LeastGap, FrontOf};
+ghost use Rattle.search.specs.Inner.{SameSlices, Holds, Walks, Judges, First, KeptAs, LeastGap, FrontOf};
 
 // All the memory that a search has: the state store, the level store and the path store.
 #[derive(Drop)]

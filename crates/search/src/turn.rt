@@ -9,8 +9,8 @@ ghost use Rattle.system.specs.Lent.{system_in};
 ghost use Rattle.question.specs.Question.{answered, bad_in, step_in};
 ghost use Rattle.call.specs.Call.{rounds};
 ghost use Rattle.search.specs.declared.react.Phase.TheVariants.{Look, Settle, Raise};
-ghost use Rattle.search.specs.Lent.{SameSlices, stores_of, config, config_of};
-ghost use Rattle.search.specs.Inner.{Holds, Lends, Ready, Raises, Moves, Begins, Ends};
+ghost use Rattle.search.specs.Lent.{stores_of, config, config_of};
+ghost use Rattle.search.specs.Inner.{SameSlices, Holds, Lends, Ready, Raises, Moves, Begins, Ends};
 
 use super::react::{Config, Move, Phase, Verdict, Why, wide};
 use super::store::Lent;

@@ -1,7 +1,7 @@
 -- `Lent::keep` meets its contract. The loop's invariant is `Fronted`: the states kept so far with those still to be kept are all that are
 -- to be kept, and from j on nothing is changed. Assumes nothing.
 use mathlib.Core.Path.{◌≡◌}
-use Rattle.search.specs.Lent.{SameSlices}
+use Rattle.search.specs.Inner.{SameSlices}
 use Rattle.search.proofs.Fronts.{Fronted}
 use Rattle.search.proofs.store.Lent.keep.Given as goal
 

@@ -5,7 +5,8 @@ use Rattle.ic3.specs.Search.{search_from}
 use Rattle.system.specs.System.{model}
 use Rattle.system.specs.Lent.{system_in}
 use Rattle.call.specs.Call.{rounds}
-use Rattle.search.specs.Lent.{SameSlices, stores_of, config_of}
+use Rattle.search.specs.Lent.{stores_of, config_of}
+use Rattle.search.specs.Inner.{SameSlices}
 use Rattle.search.proofs.Turns.{Running}
 use Rattle.search.proofs.turn.Tabled.all_turns.Given as goal
 
