@@ -105,11 +105,7 @@ fn enter_clause(
 }
 
 // What a line says is entered. Refusal 13: count wrong.
-fn enter(
-    r: Reading,
-    said: Line,
-    into: &mut Lent,
-) -> Result<Reading, Refusal>
+fn enter(r: Reading, said: Line, into: &mut Lent) -> Result<Reading, Refusal>
     requires { Lie r (lists_of into.old) }
     ensures lists { Enters r (said_of (Ok said))
         (lists_of into.old)

@@ -71,6 +71,6 @@ module _ (line : List ℕ) where
     within = omega arith;
     small = λ j h. byte_small line (2 * j) (digits (2 * j) (omega arith)) (digits (2 * j + 1) (omega arith));
     frame =
-      ap bytes (sym (take_all (suc (2 * count)) line (omega arith)))
-      ∙ frame_whole line count 0 (omega arith) (λ j h. digits j (omega arith)) (ap (λ x. get_or line x 0) (omega arith) ∙ last);
+        ap bytes (sym (take_all (suc (2 * count)) line (omega arith)))
+        ∙ frame_whole line count 0 (omega arith) (λ j h. digits j (omega arith)) (ap (λ x. get_or line x 0) (omega arith) ∙ last);
   }

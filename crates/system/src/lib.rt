@@ -175,7 +175,13 @@ impl<'a> System<'a> {
     pub fn refusal(self) -> Result<(), Refusal>
         ensures { code_of result ≡ refusal_of (system_in self.entry) }
     {
-        let System { n, w, start, step, bad } = self;
+        let System {
+            n,
+            w,
+            start,
+            step,
+            bad,
+        } = self;
         if wrong_size(n, w) {
             return Err(Refusal::Size);
         }

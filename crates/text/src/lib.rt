@@ -40,10 +40,7 @@ impl<'a> Reader<'a> {
     {
         let Reader { text, at } = self;
         let len = line_length(text, at);
-        Reader {
-            text,
-            at: at + len,
-        }
+        Reader { text, at: at + len }
     }
 }
 

@@ -23,7 +23,7 @@ returns-then-len-eq0 c =
 pub returns-then-digit_value-eq16 : goal.returns-then-digit_value-eq16
 returns-then-digit_value-eq16 c =
     no_frame _
-    (λ frame w pos most. 
+    (λ frame w pos most.
     let size = inner_length c.args.line.now in
     let same = inner_byte c.args.line.now c.loop-c.c-index (omega arith) in
     let value = rw same at c.digit_value.ensures in

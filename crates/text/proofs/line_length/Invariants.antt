@@ -8,4 +8,3 @@ use Rattle.text.proofs.line_length.Given as goal
 
 abbrev pub invariant-loop-i : goal.invariant-loop-i
 invariant-loop-i l = (l.at ≤ l.i) × (l.at + line_length (drop l.at l.text) ≡ l.i + line_length (drop l.i l.text))
-
