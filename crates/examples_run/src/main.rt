@@ -16,17 +16,18 @@ const ANSWER: usize = 13359;
 const NAME: usize = 64;
 
 // What the file holds, as far as there is room and it can be read; nothing if it cannot be opened.
-fn read_file(rt: &(impl Files + Eprint), alloc: Global, name: &str) -> Vec<u8> {
+fn read_file(rt: &(impl Files + Eprint), alloc: Global, name: &str) -> io::Result<Vec<u8>> {
     let mut bytes = Vec::new(alloc);
     match fs::open(rt, name) {
-        Ok(file) => {
-            let _ = file.take(FILE).read_to_end(&mut bytes);
-        }
+        Ok(file) => match file.take(FILE).read_to_end(&mut bytes) {
+            Err(error) if error.kind() == io::ErrorKind::OutOfMemory => return Err(error),
+            _ => {}
+        },
         Err(error) => {
             let _ = eprintln!(rt; "{name}: {error}");
         }
     }
-    bytes
+    Ok(bytes)
 }
 
 // The answer that a text tells.
@@ -70,8 +71,8 @@ fn name(argument: Option<&String>) -> &str {
 // An example: the name of its file, and that of its text.
 fn example(rt: &(impl Files + Print + Eprint), alloc: Global, names: &[String]) -> io::Result<()> {
     let file_name = name(names.first());
-    let file = read_file(rt, alloc, file_name);
-    let text = read_file(rt, alloc, name(names.get(1)));
+    let file = read_file(rt, alloc, file_name)?;
+    let text = read_file(rt, alloc, name(names.get(1)))?;
     let told = told_by(alloc, text.as_slice())?;
     if is_answer(file.as_slice(), told.as_slice()) {
         println!(rt; "{file_name}: as told")
