@@ -20,13 +20,13 @@ ghost use Rattle.base.specs.Numbers.{code_of};
 ghost use Rattle.aiger.specs.Promise.{Imports, report_of};
 ghost use Rattle.aiger.specs.Inner.{flattened, newer_in, Small, too_few, header_refusal, FaultOf, Limits, OfHeader, Held, wrong_rows, short, last_refusal, Enters, Judges};
 
-use again::{Singles, see, wrong_start};
+use again::{see, wrong_start};
 use base::{Fault, Refusal};
 use clauses::{enter_bad, enter_start, enter_step, fixed_starts};
 use find::{all_known, defined_twice, loop_free};
 use read::{Edition, Header, Reading, read};
 use system::Clause;
-use table::{Row, Rows};
+use table::{Row, Rows, Singles};
 
 // n, w and the counts of masks.
 #[derive(Clone, Copy, Debug, PartialEq, Eq)]
@@ -117,7 +117,6 @@ fn last_refusal(
 // Stays: start, step and bad as one struct of three `&mut` would be taken apart at once in each of the three functions that lend it on, and no contract of
 // the callers, `import` and `import_newer`, could name it: it is no plainer.
 fn enter(
-    text: &[u8],
     c: Singles,
     rows: Rows,
     h: Header,
@@ -126,13 +125,13 @@ fn enter(
     step: &mut [u64],
     bad: &mut [u64],
 ) -> Imported
-    requires { OfHeader h rows × Limits h × (c.at ≤ length text.now) × (c.count ≤ 4096) }
-    ensures { Enters text.now c (flattened rows.entry.all.now) h watched (lists start.old step.old bad.old)
+    requires { OfHeader h rows × Limits h }
+    ensures { Enters c.entry (flattened rows.entry.all.now) h watched (lists start.old step.old bad.old)
         result (lists start.new step.new bad.new) }
 {
     let i = enter_start(rows, start);
-    let t = enter_step(text, c, rows, step);
-    let b = enter_bad(text, c, rows, watched, bad);
+    let t = enter_step(c, rows, step);
+    let b = enter_bad(c, rows, watched, bad);
     Imported {
         n: h.latches as u32,
         w: (h.inputs + h.gates) as u32,
@@ -179,16 +178,12 @@ fn judge(
         return Err(Refusal::Loop);
     }
     last_refusal(h, rows.latches(), start.len(), step.len(), bad.len())?;
-    Ok(enter(
+    let constraints = Singles {
         text,
-        seen.constraints,
-        rows,
-        h,
-        seen.watched,
-        start,
-        step,
-        bad,
-    ))
+        at: seen.constraints,
+        count: h.constraints,
+    };
+    Ok(enter(constraints, rows, h, seen.watched, start, step, bad))
 }
 
 // A circuit of this edition.

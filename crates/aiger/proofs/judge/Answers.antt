@@ -5,7 +5,7 @@ use mathlib.Core.Path.{◌≡◌, refl, sym, ◌∙◌}
 use native.Mathlib.Omega.{arith}
 use Rattle.std.proofs.lemmas.Result.{err_from_is_err_and}
 use Rattle.aiger.proofs.Slices.{fits, few_gates, many_latches}
-use Rattle.aiger.proofs.Judging.{held_sized, held_loops, number_24, number_25, number_last, last_few, last_room, last_none, last_found, last_other}
+use Rattle.aiger.proofs.Judging.{held_sized, held_loops, number_24, number_25, number_last, last_room, last_none, last_found, last_other}
 use Rattle.aiger.proofs.Listing.{enters_system}
 use Rattle.aiger.proofs.judge.Goals as goal
 
@@ -27,7 +27,7 @@ returns-then-wrong_rows c h =
     (number_24 h _ _ _ (wrong_24 _ _ (sym c.wrong_rows.ensures ∙ c.if-wrong_rows.true)), λ e. omega arith, refl)
 
 pub see-requires : goal.see-requires
-see-requires c = c.requires.counted.singles_again.1.within
+see-requires c = (c.requires.counted.small, c.requires.counted.singles_again.1.within)
 
 pub returns-in_default : goal.returns-in_default
 returns-in_default c h = (
@@ -68,11 +68,12 @@ returns-in_err-last_refusal c h =
       refl,
     )
 
+pub invariant_of-constraints : goal.invariant_of-constraints
+invariant_of-constraints c = record { within = c.in-Some.ensures.within _ refl; few = c.requires.counted.small.constraints }
+
 pub enter-requires : goal.enter-requires
 enter-requires c =
-    let h = c.requires in
-    let none = last_none h _ _ _ 0 (rw c.latches.ensures at c.in_ok-last_refusal.ensures) refl in
-    (record { latches = refl; gates = refl }, (held_sized h).limits, (c.in-Some.ensures.within _ refl).0, omega (arith, (c.in-Some.ensures.within _ refl).1, last_few h _ _ _ none))
+    (record { latches = refl; gates = refl }, (held_sized c.requires).limits)
 
 pub returns : goal.returns
 returns c h =
