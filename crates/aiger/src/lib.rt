@@ -174,7 +174,7 @@ fn judge(
     let Some(seen) = see(text, h, r.singles, rows) else {
         return Err(Refusal::Variables);
     };
-    if !loop_free(rows.gates()) {
+    if !loop_free(rows) {
         return Err(Refusal::Loop);
     }
     last_refusal(h, rows.latches(), start.len(), step.len(), bad.len())?;

@@ -4,7 +4,7 @@ use mathlib.Core.Bool.{Bool, true, false, not, ◌||◌}
 use mathlib.Core.Path.{◌≡◌, refl, sym, ◌∙◌}
 use native.Mathlib.Omega.{arith}
 use Rattle.std.proofs.lemmas.Result.{err_from_is_err_and}
-use Rattle.aiger.proofs.Slices.{fits, few_gates, many_latches}
+use Rattle.aiger.proofs.Slices.{fits, many_latches}
 use Rattle.aiger.proofs.Judging.{held_sized, held_loops, number_24, number_25, number_last, last_room, last_none, last_found, last_other}
 use Rattle.aiger.proofs.Listing.{enters_system}
 use Rattle.aiger.proofs.judge.Goals as goal
@@ -37,14 +37,11 @@ returns-in_default c h = (
   refl,
 )
 
-pub loop_free-requires : goal.loop_free-requires
-loop_free-requires c = rw c.gates.ensures (few_gates (fits _ _ (held_sized c.requires)))
-
 pub returns-then-not-loop_free : goal.returns-then-not-loop_free
 returns-then-not-loop_free c h =
     let fine = sym c.wrong_rows.ensures ∙ c.if-wrong_rows.false in (
       number_25 h _ _ _ (right_24 _ _ fine (c.in-Some.ensures.says _ refl h.singles h.counted.singles_again).0)
-          (sym (held_loops h fine _ (rw c.gates.ensures at c.loop_free.ensures)) ∙ c.if-not-loop_free.true),
+          (sym (held_loops h fine _ c.loop_free.ensures) ∙ c.if-not-loop_free.true),
       λ e. omega arith,
       refl,
     )
@@ -62,7 +59,7 @@ returns-in_err-last_refusal c h =
     let found = rw c.latches.ensures at c.in_err-last_refusal.ensures in
     rw (p.1, p.2) (
       number_last h _ _ _ (right_24 _ _ fine (c.in-Some.ensures.says _ refl h.singles h.counted.singles_again).0)
-          (sym (held_loops h fine _ (rw c.gates.ensures at c.loop_free.ensures)) ∙ c.if-not-loop_free.false)
+          (sym (held_loops h fine _ c.loop_free.ensures) ∙ c.if-not-loop_free.false)
           ∙ sym (last_found h _ _ _ _ found),
       last_other h _ _ _ _ found,
       refl,
@@ -80,7 +77,7 @@ returns c h =
     let fine = sym c.wrong_rows.ensures ∙ c.if-wrong_rows.false in
     let seen = c.in-Some.ensures.says _ refl h.singles h.counted.singles_again in
     let none = last_none h _ _ _ 0 (rw c.latches.ensures at c.in_ok-last_refusal.ensures) refl in (
-      number_last h _ _ _ (right_24 _ _ fine seen.0) (sym (held_loops h fine _ (rw c.gates.ensures at c.loop_free.ensures)) ∙ c.if-not-loop_free.false)
+      number_last h _ _ _ (right_24 _ _ fine seen.0) (sym (held_loops h fine _ c.loop_free.ensures) ∙ c.if-not-loop_free.false)
           ∙ none,
       enters_system h _ (last_room h _ _ _ none) _ _ _ _ c.enter.ensures seen.1 seen.2,
     )
