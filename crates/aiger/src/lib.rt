@@ -26,7 +26,7 @@ use clauses::{enter_bad, enter_start, enter_step, fixed_starts};
 use find::{all_known, defined_twice, loop_free};
 use read::{Edition, Header, Reading, read};
 use system::Clause;
-use table::{Row, Rows, Singles};
+use table::{ROWS, Row, Rows, Singles};
 
 // n, w and the counts of masks.
 #[derive(Clone, Copy, Debug, PartialEq, Eq)]
@@ -37,9 +37,6 @@ pub struct Imported {
     pub step: usize,
     pub bad: usize,
 }
-
-// The most rows: 32 latches and 64 inputs and gates.
-const ROWS: usize = 96;
 
 const EMPTY: Row = Row {
     literal: 0,

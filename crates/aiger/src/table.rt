@@ -2,6 +2,9 @@
 ghost use Rattle.std.specs.Prelude.{◌≡◌, ◌≤◌, ◌<◌, ◌^◌, length, take, drop};
 ghost use Rattle.aiger.specs.Table.{Fits};
 
+// The most rows: 32 latches and 64 inputs and gates.
+pub(super) const ROWS: usize = 96;
+
 // The three numbers of a line, 0 where it has fewer: of a latch its literal, the next one and the start value, of a gate its literal and two more.
 #[derive(Clone, Copy)]
 pub(super) struct Row {
