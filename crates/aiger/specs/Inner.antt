@@ -327,6 +327,7 @@ pub record Sized (h : Header) (rows : List Row) : Type 0 where
 pub record OfHeader (h : Header) (rows : Rows) : Type 0 where
   pub latches : rows.latch_count ≡ h.latches
   pub gates : rows.first_gate ≡ h.latches + h.inputs
+  pub many : length rows.all.now ≡ h.latches + h.inputs + h.gates
 
 -- what is judged: the rows of latches, inputs and gates, and the literals that stand alone
 pub record Held (text : List ℕ) (r : Reading) (rows : List Row) : Type 0 where

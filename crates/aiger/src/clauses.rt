@@ -100,6 +100,8 @@ fn put_clause(store: &mut [u64], at: usize, m: Clause) -> usize
 }
 
 // The clause of latch k by its start value; none for "either".
+// Stays: `at < 2 ^ 32`, here and in the two below. A list is counted on where its store ends, so no slice carries it; a u32 would, but each would cast it
+// to add to it, since the end has to be a usize, and each caller would cast it back.
 fn put_first(k: usize, start: u64, store: &mut [u64], at: usize) -> usize
     requires { (k < 32) × (at < 2 ^ 32) }
     ensures { Writes at (flat (start_clauses k (starting_at start ∷ []))) store.old result store.new }
@@ -123,10 +125,10 @@ fn put_first(k: usize, start: u64, store: &mut [u64], at: usize) -> usize
 }
 
 // Start: every latch has its start value.
-fn put_start(latches: &[Row], store: &mut [u64]) -> usize
-    requires { length latches.now ≤ 32 }
-    ensures { Writes 0 (flat (start_clauses 0 (latches_of (flattened latches.now)))) store.old result store.new }
+fn put_start(rows: Rows, store: &mut [u64]) -> usize
+    ensures { Writes 0 (flat (start_clauses 0 (latches_of (latch_rows rows.entry)))) store.old result store.new }
 {
+    let latches = rows.latches();
     let mut at = 0;
     for (k, latch) in latches.iter().enumerate() {
         at = put_first(k, latch.third, store, at);
@@ -225,7 +227,7 @@ fn put_constraints(c: Singles, rows: Rows, store: &mut [u64], from: usize) -> us
 pub(super) fn enter_start(rows: Rows, store: &mut [u64]) -> usize
     ensures { Entered (start_list (latch_rows rows.entry)) store.old result store.new }
 {
-    let end = put_start(rows.latches(), store);
+    let end = put_start(rows, store);
     stores::clear_behind(store, end);
     end
 }
