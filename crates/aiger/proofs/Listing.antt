@@ -19,8 +19,8 @@ use Rattle.circuit.proofs.Main.{starting, stepping, watching}
 use Rattle.aiger.specs.Text.{firsts, latches_of, gates_of, circuit_of}
 use Rattle.aiger.specs.Promise.{Result, Report, report_of, entered}
 use Rattle.aiger.specs.declared.table.Row.{Row}
+use Rattle.aiger.specs.declared.table.Singles.{Singles}
 use Rattle.aiger.specs.Inner.{flattened, Held, circuit_in, place_by, watched_of, constraints_of, Constraints, start_list, step_list, bad_list, short, Enters}
-use Rattle.aiger.specs.declared.again.Singles.{Singles}
 use Rattle.aiger.specs.declared.Imported.{Imported}
 use Rattle.aiger.specs.declared.read.Header.{Header}
 use Rattle.aiger.specs.declared.read.Reading.{Reading}
@@ -115,8 +115,8 @@ module _ {text : List ℕ} {r : Reading} {rows : List Row} (h : Held text r rows
           omega (arith, (lengths c).2, ltb-false (length lent.bad) (4 * watching c) q.1),
         )
 
-    pub enters_system : (x : Singles) (clause : Clause) (q : Imported) (after : Lists) → Enters text x (flattened rows) H clause lent q after
-        → clause ≡ marks (place_by (flattened rows) H.latches) empty (watched_of H literals) → Constraints text x (constraints_of H literals)
+    pub enters_system : (x : Singles) (clause : Clause) (q : Imported) (after : Lists) → Enters x (flattened rows) H clause lent q after
+        → clause ≡ marks (place_by (flattened rows) H.latches) empty (watched_of H literals) → Constraints x.text.now x.at x.count (constraints_of H literals)
         → ◌≡◌ {A = Result} (record { import = report_of (Ok q); after = after }) (entered (imported (circuit_in h)) lent)
     unfolding entered filled imported
     enters_system x clause q after e o again =

@@ -24,7 +24,6 @@ use Rattle.aiger.specs.Inner.{row_list, ReadsLine, known_in, place_by, Again, Re
 use Rattle.aiger.specs.declared.part.Form.{Form}
 use Rattle.aiger.specs.declared.part.Line.{Line}
 use Rattle.aiger.specs.declared.read.Header.{Header}
-use Rattle.aiger.specs.declared.again.Singles.{Singles}
 use Rattle.aiger.proofs.Rows.{behind_row, part_clash, part_next, row_found}
 use Rattle.aiger.proofs.Writing.{Going, going_none, going_then, going_ends, flat_append}
 
@@ -229,8 +228,8 @@ module _ (text rows : List ℕ) (latches : ℕ) where
           })
 
   -- what is watched of a run, and that one of it is not known
-  module _ (s : Singles) {at left : ℕ} {clause : Clause} (g : Gathering s.at s.count at left clause) where
-    pub watches : at ≤ length text → left ≡ 0 → Watches text s rows latches (Some (record { clause = clause; at = at }))
+  module _ (first count : ℕ) {at left : ℕ} {clause : Clause} (g : Gathering first count at left clause) where
+    pub watches : at ≤ length text → left ≡ 0 → Watches text first count rows latches (Some (record { clause = clause; at = at }))
     watches within e =
         record {
           within = λ q f. let same : record { clause = clause; at = at } ≡ q = cc in rw (← same) within;
@@ -241,7 +240,7 @@ module _ (text rows : List ℕ) (latches : ℕ) where
         }
 
     pub unwatched : 0 < left → at ≤ length text → {next : Line} → ReadsLine text at next → known_in (vars rows) next.row.literal ≡ false
-        → Watches text s rows latches None
+        → Watches text first count rows latches None
     unwatched least within n e =
         record {
           within = λ q f. cc;
@@ -262,11 +261,11 @@ module _ (text : List ℕ) (place : ℕ → Place) where
     pub still : Left text (uses h) line others at left rest
     pub going : Going (clauses_of literals) (clauses_of (firsts rest)) from before end store
 
-  pub putting_first : (s : Singles) (literals : List ℕ) (c : Constraints text s literals) (from : ℕ) (before : List ℕ)
-      → Putting c.header literals s.at (s.count - 0) from before from before
-  putting_first s literals c from before =
+  pub putting_first : (at count : ℕ) (literals : List ℕ) (c : Constraints text at count literals) (from : ℕ) (before : List ℕ)
+      → Putting c.header literals at (count - 0) from before from before
+  putting_first at count literals c from before =
       let w = c.again.1 in
-      let same : s.count - 0 ≡ s.count = omega arith in
+      let same : count - 0 ≡ count = omega arith in
       rw same
       (record {
         rest = c.rows;

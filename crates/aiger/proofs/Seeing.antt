@@ -20,7 +20,6 @@ use Rattle.aiger.specs.Text.{row_of, whole, with_row, part, firsts, vars, uses, 
 use Rattle.aiger.specs.Inner.{known_in, place_by, Again, ReadAgain, Watches, watched_of, Sees}
 use Rattle.aiger.specs.declared.part.Form.{Form}
 use Rattle.aiger.specs.declared.read.Header.{Header}
-use Rattle.aiger.specs.declared.again.Singles.{Singles}
 use Rattle.aiger.specs.declared.again.Watched.{Watched}
 use Rattle.aiger.proofs.Rows.{behind_row, part_line, part_clash, part_whole}
 use Rattle.aiger.proofs.Rereading.{opens}
@@ -145,24 +144,18 @@ module _ (text rows : List ℕ) (latches : ℕ) (h : Header) (at : ℕ) where
       ∙ (ap (λ (t : Bool). t && known (firsts r.constraints)) (every_append (known_in (vars rows)) (firsts r.outputs) (firsts r.bads))
       ∙ (and_assoc (known (firsts r.outputs)) (known (firsts r.bads)) (known (firsts r.constraints)) ∙ rw (p, q, s))))
 
-  abbrev outputs_at : Singles
-  outputs_at = record { at = at; count = h.outputs }
-
   -- a run with one that is not known
   unseen : ((singles : List ℕ) → ReadAgain text (uses h) at (singles_of h) singles → known (firsts singles) ≡ false)
       → Sees text h at rows latches None
   unseen f = record { within = λ q e. cc; unknown = λ e. f; says = λ q e. cc }
 
-  pub unseen_outputs : Watches text outputs_at rows latches None → Sees text h at rows latches None
+  pub unseen_outputs : Watches text at h.outputs rows latches None → Sees text h at rows latches None
   unseen_outputs o =
       unseen (λ singles w.
       let r = pieces text h at singles w in
       known_pieces singles r (o.unknown refl h r.outputs _ r.first) refl refl)
 
-  module _ {x : Watched} (o : Watches text outputs_at rows latches (Some x)) where
-    abbrev bads_at : Singles
-    bads_at = record { at = x.at; count = h.bads }
-
+  module _ {x : Watched} (o : Watches text at h.outputs rows latches (Some x)) where
     abbrev outputs_seen : {singles : List ℕ} (r : Pieces text h at singles)
         → (known (firsts r.outputs) ≡ true) × (x.clause ≡ marked (firsts r.outputs)) × (r.after_outputs ≡ lines (drop x.at text))
     outputs_seen r = o.says x refl h r.outputs _ r.first
@@ -170,16 +163,13 @@ module _ (text rows : List ℕ) (latches : ℕ) (h : Header) (at : ℕ) where
     bads_again : {singles : List ℕ} (r : Pieces text h at singles) → Again text (uses h) x.at h.bads r.bads r.after_bads
     bads_again r = record { within = o.within x refl; from = r.line_1; line = r.line_2; says = rw (outputs_seen r).2 at r.second }
 
-    pub unseen_bads : Watches text bads_at rows latches None → Sees text h at rows latches None
+    pub unseen_bads : Watches text x.at h.bads rows latches None → Sees text h at rows latches None
     unseen_bads b =
         unseen (λ singles w.
         let r = pieces text h at singles w in
         known_pieces singles r (outputs_seen r).0 (b.unknown refl h r.bads _ (bads_again r)) refl)
 
-    module _ {y : Watched} (b : Watches text bads_at rows latches (Some y)) where
-      abbrev constraints_at : Singles
-      constraints_at = record { at = y.at; count = h.constraints }
-
+    module _ {y : Watched} (b : Watches text x.at h.bads rows latches (Some y)) where
       abbrev bads_seen : {singles : List ℕ} (r : Pieces text h at singles)
           → (known (firsts r.bads) ≡ true) × (y.clause ≡ marked (firsts r.bads)) × (r.after_bads ≡ lines (drop y.at text))
       bads_seen r = b.says y refl h r.bads _ (bads_again r)
@@ -187,7 +177,7 @@ module _ (text rows : List ℕ) (latches : ℕ) (h : Header) (at : ℕ) where
       constraints_again : {singles : List ℕ} (r : Pieces text h at singles) → Again text (uses h) y.at h.constraints r.constraints r.others
       constraints_again r = record { within = b.within y refl; from = r.line_2; line = r.third.0; says = rw (bads_seen r).2 at r.third.1 }
 
-      pub unseen_constraints : Watches text constraints_at rows latches None → Sees text h at rows latches None
+      pub unseen_constraints : Watches text y.at h.constraints rows latches None → Sees text h at rows latches None
       unseen_constraints c =
           unseen (λ singles w.
           let r = pieces text h at singles w in
@@ -199,16 +189,16 @@ module _ (text rows : List ℕ) (latches : ℕ) (h : Header) (at : ℕ) where
       chosen true p q u v e f = e
       chosen false p q u v e f = f
 
-      pub sees : {z : Watched} → Watches text constraints_at rows latches (Some z) → (clause : Clause)
+      pub sees : {z : Watched} → Watches text y.at h.constraints rows latches (Some z) → (clause : Clause)
           → clause ≡ (elim (eqb h.bads 0) as (λ t. Clause) [ true ↦ x.clause | false ↦ y.clause ])
-          → Sees text h at rows latches (Some (record { watched = clause; constraints = constraints_at }))
+          → Sees text h at rows latches (Some (record { watched = clause; constraints = y.at }))
       unfolding watched_of
       sees {z} c clause f =
           record {
-            within = λ q e. let same : record { watched = clause; constraints = constraints_at } ≡ q = cc in rw (← same) (b.within y refl, refl);
+            within = λ q e. let same : record { watched = clause; constraints = y.at } ≡ q = cc in rw (← same) (b.within y refl);
             unknown = λ e. cc;
             says = λ q e singles w.
-                let same : record { watched = clause; constraints = constraints_at } ≡ q = cc in
+                let same : record { watched = clause; constraints = y.at } ≡ q = cc in
                 let r = pieces text h at singles w in
                 rw (← same) (
                   known_pieces singles r (outputs_seen r).0 (bads_seen r).0 (c.says z refl h r.constraints r.others (constraints_again r)).0,

@@ -25,13 +25,13 @@ use Rattle.aiger.specs.declared.Imported.{Imported}
 use Rattle.aiger.specs.declared.part.Form.{Form}
 use Rattle.aiger.specs.declared.table.Rows.{Rows}
 use Rattle.aiger.specs.declared.table.Row.{Row}
+use Rattle.aiger.specs.declared.table.Singles.{Singles}
 use Rattle.aiger.specs.declared.part.Line.{Line}
 use Rattle.aiger.specs.declared.part.Lines.{Lines}
 use Rattle.aiger.specs.declared.read.Edition.{Edition}
 use Rattle.aiger.specs.declared.read.Edition.TheVariants.{First, Newer}
 use Rattle.aiger.specs.declared.read.Header.{Header}
 use Rattle.aiger.specs.declared.read.Reading.{Reading}
-use Rattle.aiger.specs.declared.again.Singles.{Singles}
 use Rattle.aiger.specs.declared.again.Watched.{Watched}
 use Rattle.aiger.specs.declared.again.Seen.{Seen}
 
@@ -261,12 +261,12 @@ pub record RightStarts (text : List ℕ) (at count : ℕ) (r : Option ℕ) : Typ
   pub wrong : (k : ℕ) → r ≡ Some k → (h : Header) (latches : List ℕ) → ReadAgain text (latch_form h) at count latches
       → (any wrong_start (latches_of latches) ≡ true) × (k ≡ right_starts (latches_of latches))
 
-pub record Watches (text : List ℕ) (s : Singles) (rows : List ℕ) (latches : ℕ) (r : Option Watched) : Type 0 where
+pub record Watches (text : List ℕ) (at count : ℕ) (rows : List ℕ) (latches : ℕ) (r : Option Watched) : Type 0 where
   pub within : (q : Watched) → r ≡ Some q → q.at ≤ length text
-  pub unknown : r ≡ None → (h : Header) (singles : List ℕ) (others : List (List ℕ)) → Again text (uses h) s.at s.count singles others
+  pub unknown : r ≡ None → (h : Header) (singles : List ℕ) (others : List (List ℕ)) → Again text (uses h) at count singles others
       → every (known_in (vars rows)) (firsts singles) ≡ false
   pub says : (q : Watched) → r ≡ Some q → (h : Header) (singles : List ℕ) (others : List (List ℕ))
-      → Again text (uses h) s.at s.count singles others
+      → Again text (uses h) at count singles others
       → (every (known_in (vars rows)) (firsts singles) ≡ true)
       × (q.clause ≡ marks (place_by rows latches) empty (firsts singles))
       × (others ≡ lines (drop q.at text))
@@ -279,33 +279,33 @@ abbrev pub constraints_of : Header → List ℕ → List ℕ
 constraints_of h literals = drop (h.outputs + h.bads) literals
 
 -- these constraints are read again
-pub record Constraints (text : List ℕ) (s : Singles) (literals : List ℕ) : Type 0 where
+pub record Constraints (text : List ℕ) (at count : ℕ) (literals : List ℕ) : Type 0 where
   pub header : Header
   pub rows : List ℕ
-  pub again : ReadAgain text (uses header) s.at s.count rows
+  pub again : ReadAgain text (uses header) at count rows
   pub literals_are : literals ≡ firsts rows
 
 pub record Sees (text : List ℕ) (h : Header) (at : ℕ) (rows : List ℕ) (latches : ℕ) (r : Option Seen) : Type 0 where
-  pub within : (q : Seen) → r ≡ Some q → (q.constraints.at ≤ length text) × (q.constraints.count ≡ h.constraints)
+  pub within : (q : Seen) → r ≡ Some q → q.constraints ≤ length text
   pub unknown : r ≡ None → (singles : List ℕ) → ReadAgain text (uses h) at (singles_of h) singles
       → every (known_in (vars rows)) (firsts singles) ≡ false
   pub says : (q : Seen) → r ≡ Some q → (singles : List ℕ) → ReadAgain text (uses h) at (singles_of h) singles
       → (every (known_in (vars rows)) (firsts singles) ≡ true)
       × (q.watched ≡ marks (place_by rows latches) empty (watched_of h (firsts singles)))
-      × Constraints text q.constraints (constraints_of h (firsts singles))
+      × Constraints text q.constraints h.constraints (constraints_of h (firsts singles))
 
-pub record PutsConstraints (text : List ℕ) (s : Singles) (place : ℕ → Place) (from : ℕ) (before : List ℕ) (r : ℕ) (after : List ℕ) : Type 0 where
+pub record PutsConstraints (c : Singles) (place : ℕ → Place) (from : ℕ) (before : List ℕ) (r : ℕ) (after : List ℕ) : Type 0 where
   pub same : length after ≡ length before
-  pub says : (literals : List ℕ) → Constraints text s literals → Writes from (flat (constraint_clauses place literals)) before r after
+  pub says : (literals : List ℕ) → Constraints c.text.now c.at c.count literals → Writes from (flat (constraint_clauses place literals)) before r after
 
 -- lists that are entered with these constraints
-abbrev pub EntersStep : List ℕ → Singles → List ℕ → List ℕ → List ℕ → List ℕ → ℕ → List ℕ → Type 0
-EntersStep text s rows latches gates before r after =
-    (literals : List ℕ) → Constraints text s literals → Entered (step_list rows latches gates literals) before r after
+abbrev pub EntersStep : Singles → List ℕ → List ℕ → List ℕ → List ℕ → ℕ → List ℕ → Type 0
+EntersStep c rows latches gates before r after =
+    (literals : List ℕ) → Constraints c.text.now c.at c.count literals → Entered (step_list rows latches gates literals) before r after
 
-abbrev pub EntersBad : List ℕ → Singles → List ℕ → ℕ → List ℕ → Clause → List ℕ → ℕ → List ℕ → Type 0
-EntersBad text s rows latches gates watched before r after =
-    (literals : List ℕ) → Constraints text s literals → Entered (bad_list rows latches gates literals watched) before r after
+abbrev pub EntersBad : Singles → List ℕ → ℕ → List ℕ → Clause → List ℕ → ℕ → List ℕ → Type 0
+EntersBad c rows latches gates watched before r after =
+    (literals : List ℕ) → Constraints c.text.now c.at c.count literals → Entered (bad_list rows latches gates literals watched) before r after
 
 -- ---- the refusals in their order
 unfoldable pub too_few : Header → Bool
@@ -327,6 +327,7 @@ pub record Sized (h : Header) (rows : List Row) : Type 0 where
 pub record OfHeader (h : Header) (rows : Rows) : Type 0 where
   pub latches : rows.latch_count ≡ h.latches
   pub gates : rows.first_gate ≡ h.latches + h.inputs
+  pub many : length rows.all.now ≡ h.latches + h.inputs + h.gates
 
 -- what is judged: the rows of latches, inputs and gates, and the literals that stand alone
 pub record Held (text : List ℕ) (r : Reading) (rows : List Row) : Type 0 where
@@ -362,12 +363,12 @@ last_refusal h latches start step bad =
     else 2 if ltb most_clauses (2 * h.latches + shared_count h)
 
 -- the lists are entered, if each store has room
-pub record Enters (text : List ℕ) (s : Singles) (rows : List ℕ) (h : Header) (watched : Clause) (lent : Lists) (r : Imported) (after : Lists) : Type 0 where
+pub record Enters (c : Singles) (rows : List ℕ) (h : Header) (watched : Clause) (lent : Lists) (r : Imported) (after : Lists) : Type 0 where
   pub sizes : (r.n ≡ h.latches) × (r.w ≡ h.inputs + h.gates)
   pub start : Entered (start_list (take (3 * h.latches) rows)) lent.start r.start after.start
   pub step :
-      EntersStep text s rows (take (3 * h.latches) rows) (drop (3 * (h.latches + h.inputs)) rows) lent.step r.step after.step
-  pub bad : EntersBad text s rows h.latches (drop (3 * (h.latches + h.inputs)) rows) watched lent.bad r.bad after.bad
+      EntersStep c rows (take (3 * h.latches) rows) (drop (3 * (h.latches + h.inputs)) rows) lent.step r.step after.step
+  pub bad : EntersBad c rows h.latches (drop (3 * (h.latches + h.inputs)) rows) watched lent.bad r.bad after.bad
 
 -- the line of a refusal that a start value is not the reason of: the header's, or none
 abbrev pub header_line : Refusal → ℕ

@@ -7,10 +7,9 @@ ghost use Rattle.aiger.specs.Text.{latches_of, gates_of};
 ghost use Rattle.aiger.specs.Inner.{flattened, latch_rows, gate_rows, place_at, placed, starting_at, latch_of, gate_of, start_list, is_fixed, Entered};
 ghost use Rattle.aiger.specs.Inner.{PutsConstraints, EntersStep, EntersBad};
 
-use super::again::Singles;
 use super::find::find;
 use super::part::read_line;
-use super::table::{Row, Rows};
+use super::table::{Row, Rows, Singles};
 use masks::Mask;
 use system::Clause;
 
@@ -101,6 +100,8 @@ fn put_clause(store: &mut [u64], at: usize, m: Clause) -> usize
 }
 
 // The clause of latch k by its start value; none for "either".
+// Stays: `at < 2 ^ 32`, here and in the two below. A list is counted on where its store ends, so no slice carries it; a u32 would, but each would cast it
+// to add to it, since the end has to be a usize, and each caller would cast it back.
 fn put_first(k: usize, start: u64, store: &mut [u64], at: usize) -> usize
     requires { (k < 32) × (at < 2 ^ 32) }
     ensures { Writes at (flat (start_clauses k (starting_at start ∷ []))) store.old result store.new }
@@ -124,10 +125,10 @@ fn put_first(k: usize, start: u64, store: &mut [u64], at: usize) -> usize
 }
 
 // Start: every latch has its start value.
-fn put_start(latches: &[Row], store: &mut [u64]) -> usize
-    requires { length latches.now ≤ 32 }
-    ensures { Writes 0 (flat (start_clauses 0 (latches_of (flattened latches.now)))) store.old result store.new }
+fn put_start(rows: Rows, store: &mut [u64]) -> usize
+    ensures { Writes 0 (flat (start_clauses 0 (latches_of (latch_rows rows.entry)))) store.old result store.new }
 {
+    let latches = rows.latches();
     let mut at = 0;
     for (k, latch) in latches.iter().enumerate() {
         at = put_first(k, latch.third, store, at);
@@ -206,14 +207,14 @@ fn put_gates(rows: Rows, store: &mut [u64], from: usize) -> usize
 }
 
 // One clause a constraint; their lines are read again.
-fn put_constraints(text: &[u8], c: Singles, rows: Rows, store: &mut [u64], from: usize) -> usize
-    requires { (c.at ≤ length text.now) × (c.count ≤ 4096) × (from < 2 ^ 16) }
-    ensures { PutsConstraints text.now c (placed rows.entry) from store.old result store.new }
+fn put_constraints(c: Singles, rows: Rows, store: &mut [u64], from: usize) -> usize
+    requires { from < 2 ^ 16 }
+    ensures { PutsConstraints c.entry (placed rows.entry) from store.old result store.new }
 {
     let mut at = c.at;
     let mut next = from;
     for _ in 0..c.count {
-        let line = read_line(text, at);
+        let line = read_line(c.text, at);
         let l = line.row.literal;
         let m = with_literal(rows, no_literal(), l / 2, l % 2);
         next = put_clause(store, next, m);
@@ -226,37 +227,29 @@ fn put_constraints(text: &[u8], c: Singles, rows: Rows, store: &mut [u64], from:
 pub(super) fn enter_start(rows: Rows, store: &mut [u64]) -> usize
     ensures { Entered (start_list (latch_rows rows.entry)) store.old result store.new }
 {
-    let end = put_start(rows.latches(), store);
+    let end = put_start(rows, store);
     stores::clear_behind(store, end);
     end
 }
 
 // The list of step: two clauses a latch, then three a gate and one a constraint.
-pub(super) fn enter_step(text: &[u8], c: Singles, rows: Rows, store: &mut [u64]) -> usize
-    requires { (c.at ≤ length text.now) × (c.count ≤ 4096) }
-    ensures { EntersStep text.now c (flattened rows.entry.all.now) (latch_rows rows.entry) (gate_rows rows.entry) store.old result store.new }
+pub(super) fn enter_step(c: Singles, rows: Rows, store: &mut [u64]) -> usize
+    ensures { EntersStep c.entry (flattened rows.entry.all.now) (latch_rows rows.entry) (gate_rows rows.entry) store.old result store.new }
 {
     let end = put_latches(rows, store);
     let end = put_gates(rows, store, end);
-    let end = put_constraints(text, c, rows, store, end);
+    let end = put_constraints(c, rows, store, end);
     stores::clear_behind(store, end);
     end
 }
 
 // The list of bad: the clause of what is watched, then three a gate and one a constraint.
-pub(super) fn enter_bad(
-    text: &[u8],
-    c: Singles,
-    rows: Rows,
-    watched: Clause,
-    store: &mut [u64],
-) -> usize
-    requires { (c.at ≤ length text.now) × (c.count ≤ 4096) }
-    ensures { EntersBad text.now c (flattened rows.entry.all.now) rows.entry.latch_count (gate_rows rows.entry) watched store.old result store.new }
+pub(super) fn enter_bad(c: Singles, rows: Rows, watched: Clause, store: &mut [u64]) -> usize
+    ensures { EntersBad c.entry (flattened rows.entry.all.now) rows.entry.latch_count (gate_rows rows.entry) watched store.old result store.new }
 {
     let front = put_clause(store, 0, watched);
     let front = put_gates(rows, store, front);
-    let end = put_constraints(text, c, rows, store, front);
+    let end = put_constraints(c, rows, store, front);
     stores::clear_behind(store, end);
     end
 }

@@ -1,14 +1,14 @@
 // Variables are found by looking through the rows, of which there are at most 96: no table over M. Refusal 24, a variable defined twice or used and
 // not defined; refusal 25, a gate that depends on itself, by one mask of gates.
-ghost use Rattle.std.specs.Prelude.{true, ◌≡◌, ◌-◌, ◌^◌, ◌≤◌, length};
+ghost use Rattle.std.specs.Prelude.{true, ◌≡◌, ◌-◌, ◌^◌, ◌≤◌};
 ghost use Rattle.std.specs.List.{list_all, position};
 ghost use Rattle.circuit.specs.Circuit.{among};
 ghost use Rattle.circuit.specs.Loops.{round};
 ghost use Rattle.circuit.specs.Refusals.{twice};
 ghost use Rattle.aiger.specs.Text.{vars, gates_of};
-ghost use Rattle.aiger.specs.Inner.{flattened, has_var, known_in, line_known, LoopFree};
+ghost use Rattle.aiger.specs.Inner.{flattened, gate_rows, has_var, known_in, line_known, LoopFree};
 
-use super::table::Row;
+use super::table::{Row, Rows};
 
 // The first row of a variable.
 pub(super) fn find(rows: &[Row], v: u64) -> Option<usize>
@@ -46,24 +46,23 @@ pub(super) fn all_known(rows: &[Row], lines: &[Row]) -> bool
 }
 
 // Whether a variable is no gate's or its gate is in the mask.
-fn is_settled(gates: &[Row], mask: u64, v: u64) -> bool
-    requires { length gates.now ≤ 64 }
-    ensures { result ≡ among (vars (flattened gates.now)) mask true v }
+fn is_settled(rows: Rows, mask: u64, v: u64) -> bool
+    ensures { result ≡ among (vars (gate_rows rows.entry)) mask true v }
 {
-    match find(gates, v) {
+    match find(rows.gates(), v) {
         Some(k) => (mask >> k) % 2 == 1,
         None => true,
     }
 }
 
 // One round: the gates whose two variables are no gate's or in the mask.
-fn settle(gates: &[Row], mask: u64) -> u64
-    requires { length gates.now ≤ 64 }
-    ensures { result ≡ round (gates_of (flattened gates.now)) mask }
+fn settle(rows: Rows, mask: u64) -> u64
+    ensures { result ≡ round (gates_of (gate_rows rows.entry)) mask }
 {
+    let gates = rows.gates();
     let mut next = 0;
     for (k, gate) in gates.iter().enumerate() {
-        if is_settled(gates, mask, gate.second / 2) && is_settled(gates, mask, gate.third / 2) {
+        if is_settled(rows, mask, gate.second / 2) && is_settled(rows, mask, gate.third / 2) {
             next += masks::power(k as u32);
         }
     }
@@ -71,13 +70,13 @@ fn settle(gates: &[Row], mask: u64) -> u64
 }
 
 // Whether no gate depends on itself: as many rounds as gates reach them all.
-pub(super) fn loop_free(gates: &[Row]) -> bool
-    requires { length gates.now ≤ 64 }
-    ensures { LoopFree (flattened gates.now) result }
+pub(super) fn loop_free(rows: Rows) -> bool
+    ensures { LoopFree (gate_rows rows.entry) result }
 {
+    let gates = rows.gates();
     let mut mask = 0;
     for _ in gates {
-        mask = settle(gates, mask);
+        mask = settle(rows, mask);
     }
     mask == full(gates.len() as u32)
 }

@@ -13,20 +13,20 @@ mod part;
 mod read;
 mod table;
 
-ghost use Rattle.std.specs.Prelude.{◌≡◌, ◌≤◌, length};
+ghost use Rattle.std.specs.Prelude.{◌≡◌};
 ghost use Rattle.stores.specs.Lists.{lists};
 ghost use Rattle.aiger.specs.Text.{first_edition, newer_edition};
 ghost use Rattle.base.specs.Numbers.{code_of};
 ghost use Rattle.aiger.specs.Promise.{Imports, report_of};
-ghost use Rattle.aiger.specs.Inner.{flattened, newer_in, Small, too_few, header_refusal, FaultOf, Limits, OfHeader, Held, wrong_rows, short, last_refusal, Enters, Judges};
+ghost use Rattle.aiger.specs.Inner.{flattened, latch_rows, newer_in, Small, too_few, header_refusal, FaultOf, OfHeader, Held, wrong_rows, short, last_refusal, Enters, Judges};
 
-use again::{Singles, see, wrong_start};
+use again::{see, wrong_start};
 use base::{Fault, Refusal};
 use clauses::{enter_bad, enter_start, enter_step, fixed_starts};
 use find::{all_known, defined_twice, loop_free};
 use read::{Edition, Header, Reading, read};
 use system::Clause;
-use table::{Row, Rows};
+use table::{ROWS, Row, Rows, Singles};
 
 // n, w and the counts of masks.
 #[derive(Clone, Copy, Debug, PartialEq, Eq)]
@@ -37,9 +37,6 @@ pub struct Imported {
     pub step: usize,
     pub bad: usize,
 }
-
-// The most rows: 32 latches and 64 inputs and gates.
-const ROWS: usize = 96;
 
 const EMPTY: Row = Row {
     literal: 0,
@@ -59,6 +56,8 @@ fn fault_of(refusal: Refusal) -> Fault
 }
 
 // Refusal 21.
+// Stays: `Small h` is no ghost field of `Header`: `header_by`, by which the public promise reads a header, builds one of any numbers, of which it does not
+// hold. With counts of u32 each term of this sum, and of every other sum of counts, would be cast first.
 fn too_few(h: Header) -> bool
     requires { Small h }
     ensures { result ≡ too_few h }
@@ -82,7 +81,7 @@ fn header_refusal(h: Header) -> Result<(), Refusal>
 
 // Refusal 32: a store is shorter than its list, of which that of start has so many masks.
 fn too_short(h: Header, first: usize, start: usize, step: usize, bad: usize) -> bool
-    requires { Small h × Limits h }
+    requires { Small h }
     ensures { result ≡ short h first start step bad }
 {
     let latches = h.latches as usize;
@@ -91,20 +90,14 @@ fn too_short(h: Header, first: usize, start: usize, step: usize, bad: usize) -> 
 }
 
 // Refusals from 26 on: 26, 32, and of the system's own the only one that can come, a list that is too long.
-fn last_refusal(
-    h: Header,
-    latches: &[Row],
-    start: usize,
-    step: usize,
-    bad: usize,
-) -> Result<(), Refusal>
-    requires { Small h × Limits h × (length latches.now ≤ 32) }
-    ensures { code_of result ≡ last_refusal h (flattened latches.now) start step bad }
+fn last_refusal(h: Header, rows: Rows, start: usize, step: usize, bad: usize) -> Result<(), Refusal>
+    requires { Small h }
+    ensures { code_of result ≡ last_refusal h (latch_rows rows.entry) start step bad }
 {
     if h.outputs == 0 && h.bads == 0 {
         return Err(Refusal::Watched);
     }
-    if too_short(h, 4 * fixed_starts(latches), start, step, bad) {
+    if too_short(h, 4 * fixed_starts(rows.latches()), start, step, bad) {
         return Err(Refusal::ClauseStore);
     }
     if 4096 < 2 * h.latches + (3 * h.gates + h.constraints) {
@@ -117,7 +110,6 @@ fn last_refusal(
 // Stays: start, step and bad as one struct of three `&mut` would be taken apart at once in each of the three functions that lend it on, and no contract of
 // the callers, `import` and `import_newer`, could name it: it is no plainer.
 fn enter(
-    text: &[u8],
     c: Singles,
     rows: Rows,
     h: Header,
@@ -126,13 +118,13 @@ fn enter(
     step: &mut [u64],
     bad: &mut [u64],
 ) -> Imported
-    requires { OfHeader h rows × Limits h × (c.at ≤ length text.now) × (c.count ≤ 4096) }
-    ensures { Enters text.now c (flattened rows.entry.all.now) h watched (lists start.old step.old bad.old)
+    requires { OfHeader h rows }
+    ensures { Enters c.entry (flattened rows.entry.all.now) h watched (lists start.old step.old bad.old)
         result (lists start.new step.new bad.new) }
 {
     let i = enter_start(rows, start);
-    let t = enter_step(text, c, rows, step);
-    let b = enter_bad(text, c, rows, watched, bad);
+    let t = enter_step(c, rows, step);
+    let b = enter_bad(c, rows, watched, bad);
     Imported {
         n: h.latches as u32,
         w: (h.inputs + h.gates) as u32,
@@ -175,20 +167,16 @@ fn judge(
     let Some(seen) = see(text, h, r.singles, rows) else {
         return Err(Refusal::Variables);
     };
-    if !loop_free(rows.gates()) {
+    if !loop_free(rows) {
         return Err(Refusal::Loop);
     }
-    last_refusal(h, rows.latches(), start.len(), step.len(), bad.len())?;
-    Ok(enter(
+    last_refusal(h, rows, start.len(), step.len(), bad.len())?;
+    let constraints = Singles {
         text,
-        seen.constraints,
-        rows,
-        h,
-        seen.watched,
-        start,
-        step,
-        bad,
-    ))
+        at: seen.constraints,
+        count: h.constraints,
+    };
+    Ok(enter(constraints, rows, h, seen.watched, start, step, bad))
 }
 
 // A circuit of this edition.

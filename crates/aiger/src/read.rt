@@ -4,11 +4,11 @@
 ghost use Rattle.std.specs.Prelude.{◌≡◌, ◌≤◌, length, drop};
 ghost use Rattle.text.specs.Lines.{lines};
 ghost use Rattle.aiger.specs.Text.{most_counts, parts_of, behind_header, tells};
-ghost use Rattle.aiger.specs.Inner.{newer_in, HeadOf, Small, most_rows, ReadAs};
+ghost use Rattle.aiger.specs.Inner.{newer_in, HeadOf, Small, ReadAs};
 
 use super::numbers::numbers;
 use super::part::{Form, Lines, take_part, wrong_form};
-use super::table::Row;
+use super::table::{ROWS, Row};
 use base::{Fault, Refusal};
 
 // The first edition takes the fewer counts, and no start values.
@@ -84,8 +84,8 @@ fn head_of(edition: Edition, line: &[u8]) -> Option<Header>
 }
 
 // The parts behind the header, which ends at this index.
-fn read_parts(text: &[u8], at: usize, h: Header, rows: &mut [Row]) -> Result<Reading, Fault>
-    requires { Small h × (at ≤ length text.now) × (length rows.old ≤ most_rows) }
+fn read_parts(text: &[u8], at: usize, h: Header, rows: &mut [Row; ROWS]) -> Result<Reading, Fault>
+    requires { Small h × (at ≤ length text.now) }
     ensures { ReadAs text.now (parts_of h (lines (drop at text.now))) rows.old result rows.new }
 {
     let form = Form {
@@ -138,8 +138,8 @@ fn read_parts(text: &[u8], at: usize, h: Header, rows: &mut [Row]) -> Result<Rea
 }
 
 // The lines behind a header that asks for nothing but safety.
-fn read_behind(text: &[u8], at: usize, h: Header, rows: &mut [Row]) -> Result<Reading, Fault>
-    requires { Small h × (at ≤ length text.now) × (length rows.old ≤ most_rows) }
+fn read_behind(text: &[u8], at: usize, h: Header, rows: &mut [Row; ROWS]) -> Result<Reading, Fault>
+    requires { Small h × (at ≤ length text.now) }
     ensures { ReadAs text.now (behind_header h (lines (drop at text.now))) rows.old result rows.new }
 {
     if h.justice != 0 || h.fairness != 0 {
@@ -152,8 +152,7 @@ fn read_behind(text: &[u8], at: usize, h: Header, rows: &mut [Row]) -> Result<Re
 }
 
 // The text: its first line at fault, or what it says.
-pub(super) fn read(edition: Edition, text: &[u8], rows: &mut [Row]) -> Result<Reading, Fault>
-    requires { length rows.old ≤ most_rows }
+pub(super) fn read(edition: Edition, text: &[u8], rows: &mut [Row; ROWS]) -> Result<Reading, Fault>
     ensures { ReadAs text.now (tells (newer_in edition) text.now) rows.old result rows.new }
 {
     let end = text::line_length(text, 0);

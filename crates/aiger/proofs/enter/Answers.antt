@@ -5,7 +5,7 @@ use Rattle.aiger.proofs.enter.Goals as goal
 
 pub returns : goal.returns
 returns c =
-    let of = c.requires.0 in
+    let of = c.requires in
     record {
       sizes = (refl, refl);
       start = rw (flat_take, of.latches) at c.enter_start-i.ensures;

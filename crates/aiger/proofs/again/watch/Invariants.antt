@@ -7,5 +7,5 @@ use Rattle.aiger.proofs.Rereading.{Gathering}
 use Rattle.aiger.proofs.again.watch.Given as goal
 
 abbrev pub invariant-loop : goal.invariant-loop
-invariant-loop l = (l.at ≤ length l.text)
-    × Gathering l.text (flattened l.rows.all.now) l.rows.latch_count l.initial.at l.initial.end l.at (l.initial.end - l.counter) l.clause
+invariant-loop l = (l.at ≤ length l.s.text.now)
+    × Gathering l.s.text.now (flattened l.rows.all.now) l.rows.latch_count l.s.at l.s.count l.at (l.s.count - l.counter) l.clause

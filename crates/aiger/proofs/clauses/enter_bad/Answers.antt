@@ -11,11 +11,8 @@ pub put_gates-front-requires : goal.put_gates-front-requires
 put_gates-front-requires c = omega (arith, clause_end _ c.put_clause-front.ensures)
 
 pub put_constraints-end-requires : goal.put_constraints-end-requires
-put_constraints-end-requires c = (
-  c.requires.0,
-  c.requires.1,
-  omega (arith, few_gates c.args.rows.fits, clause_end _ c.put_clause-front.ensures, gates_end _ _ _ _ _ _ c.put_gates-front.ensures),
-)
+put_constraints-end-requires c =
+    omega (arith, few_gates c.args.rows.fits, clause_end _ c.put_clause-front.ensures, gates_end _ _ _ _ _ _ c.put_gates-front.ensures)
 
 pub returns : goal.returns
 unfolding bad_list

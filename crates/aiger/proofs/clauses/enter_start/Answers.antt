@@ -5,4 +5,4 @@ use Rattle.aiger.proofs.clauses.enter_start.Goals as goal
 
 pub returns : goal.returns
 unfolding start_list
-returns c = enters (rw c.latches.ensures at c.put_start-end.ensures) c.clear_behind.ensures
+returns c = enters c.put_start-end.ensures c.clear_behind.ensures

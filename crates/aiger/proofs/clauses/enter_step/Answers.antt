@@ -17,17 +17,14 @@ put_gates-end-requires c =
 
 pub put_constraints-end-requires : goal.put_constraints-end-requires
 put_constraints-end-requires c =
-    let f = c.args.rows.fits in (
-      c.requires.0,
-      c.requires.1,
-      omega (
-        arith,
-        f.most,
-        many_latches f,
-        few_gates f,
-        latches_end _ _ _ _ _ c.put_latches-end.ensures,
-        gates_end _ _ _ _ _ _ c.put_gates-end.ensures,
-      ),
+    let f = c.args.rows.fits in
+    omega (
+      arith,
+      f.most,
+      many_latches f,
+      few_gates f,
+      latches_end _ _ _ _ _ c.put_latches-end.ensures,
+      gates_end _ _ _ _ _ _ c.put_gates-end.ensures,
     )
 
 pub returns : goal.returns

@@ -8,20 +8,19 @@ use Rattle.aiger.proofs.clauses.put_constraints.Goals as goal
 
 pub loop-init : goal.loop-init
 loop-init c =
-    (c.requires.0, c.requires.1, omega arith, refl, λ literals k. putting_first _ _ _ literals k _ _)
+    (c.args.c.within, omega arith, refl, λ literals k. putting_first _ _ _ _ literals k _ _)
 
 pub put_clause-next-requires : goal.put_clause-next-requires
-put_clause-next-requires c = omega (arith, c.loop.invariant.1, c.loop.invariant.2, c.loop-test.true, c.requires.2)
+put_clause-next-requires c = omega (arith, c.args.c.few, c.loop.invariant.1, c.loop-test.true, c.requires)
 
 pub loop-preserved : goal.loop-preserved
 loop-preserved c =
     let l = c.loop in (
       c.read_line-line.ensures.within,
-      l.invariant.1,
-      omega (arith, l.invariant.2, clause_end _ c.put_clause-next.ensures),
-      writes_length c.put_clause-next.ensures ∙ l.invariant.3,
+      omega (arith, l.invariant.1, clause_end _ c.put_clause-next.ensures),
+      writes_length c.put_clause-next.ensures ∙ l.invariant.2,
       λ literals k.
-          putting_next _ _ (l.invariant.4 literals k) (omega (arith, c.loop-test.true)) l.invariant.0 c.read_line-line.ensures
+          putting_next _ _ (l.invariant.3 literals k) (omega (arith, c.loop-test.true)) l.invariant.0 c.read_line-line.ensures
           _
           (c.with_literal-m.ensures ∙ ap (mark _ _) c.no_literal.ensures)
           c.put_clause-next.ensures
@@ -31,4 +30,4 @@ loop-preserved c =
 pub returns : goal.returns
 returns c =
     let l = c.loop in
-    record { same = l.invariant.3; says = λ literals k. putting_last _ _ (l.invariant.4 literals k) (omega (arith, c.loop-test.false)) }
+    record { same = l.invariant.2; says = λ literals k. putting_last _ _ (l.invariant.3 literals k) (omega (arith, c.loop-test.false)) }

@@ -5,14 +5,10 @@ use mathlib.Core.List.{List}
 use mathlib.Core.Path.{◌≡◌}
 use lib.ListN.{length}
 use Rattle.aiger.specs.Inner.{placed, Constraints}
-use Rattle.aiger.specs.declared.again.Singles.{Singles}
 use Rattle.aiger.proofs.Rereading.{Putting}
 use Rattle.aiger.proofs.clauses.put_constraints.Given as goal
 
-abbrev singles : ℕ → ℕ → Singles
-singles at count = record { at = at; count = count }
-
 abbrev pub invariant-loop : goal.invariant-loop
-invariant-loop l = (l.at ≤ length l.text) × (l.initial.end ≤ 4096) × (l.next ≡ l.from + 4 * l.counter)
-    × (length l.store ≡ length l.initial.store) × ((literals : List ℕ) (k : Constraints l.text (singles l.initial.at l.initial.end) literals)
-    → Putting l.text (placed l.rows) k.header literals l.at (l.initial.end - l.counter) l.from l.initial.store l.next l.store)
+invariant-loop l = (l.at ≤ length l.c.text.now) × (l.next ≡ l.from + 4 * l.counter)
+    × (length l.store ≡ length l.initial.store) × ((literals : List ℕ) (k : Constraints l.c.text.now l.c.at l.c.count literals)
+    → Putting l.c.text.now (placed l.rows) k.header literals l.at (l.c.count - l.counter) l.from l.initial.store l.next l.store)

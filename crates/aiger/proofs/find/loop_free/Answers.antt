@@ -1,9 +1,10 @@
 use mathlib.Core.Path.{ap, ◌∙◌}
+use lib.ListN.{length}
 use native.Mathlib.Omega.{arith}
 use Rattle.std.proofs.Common.{rules}
 use Rattle.circuit.specs.Loops.{rounds}
 use Rattle.aiger.specs.Text.{gates_of}
-use Rattle.aiger.specs.Inner.{flattened}
+use Rattle.aiger.specs.Inner.{gate_rows}
 use Rattle.aiger.proofs.Settling.{loop_decided}
 use Rattle.aiger.proofs.find.loop_free.Goals as goal
 
@@ -16,4 +17,9 @@ unfolding rounds
 loop-preserved c = search rules
 
 pub returns : goal.returns
-returns c = loop_decided _ _ _ (c.loop.invariant ∙ ap (rounds (gates_of (flattened c.args.gates.now))) (omega (arith, c.loop-test.false, c.loop.auto.index-end))) c.full.ensures
+returns c =
+    loop_decided _ _ _
+    (c.loop.invariant
+    ∙ ap (rounds (gates_of (gate_rows c.args.rows)))
+    (omega (arith, ap length c.gates-gates.ensures, c.loop-test.false, c.loop.auto.index-end)))
+    (rw c.gates-gates.ensures at c.full.ensures)

@@ -1,5 +1,4 @@
--- `find::settle` meets its contract. The loop's invariant: the bits below k are gathered, and the rows from k on give the others. There are at most 64
--- gates, so each bit fits. Assumes nothing.
+-- `find::settle` meets its contract. The loop's invariant: the bits below k are gathered, and the rows from k on give the others. Assumes nothing.
 use Prim.Native.Nat.{◌≤◌}
 use lib.ListN.{length}
 use Rattle.aiger.proofs.Settling.{Gathers}

@@ -11,7 +11,7 @@ pub returns-in_default : goal.returns-in_default
 returns-in_default c = read_other _ _ _ c.line_length-end.ensures c.in_default.ensures c.wrong_form.ensures
 
 pub read_behind-requires : goal.read_behind-requires
-read_behind-requires c = (c.in-Some.ensures.1, first_within _ _ c.line_length-end.ensures, c.requires)
+read_behind-requires c = (c.in-Some.ensures.1, first_within _ _ c.line_length-end.ensures)
 
 pub returns : goal.returns
 returns c = read_header _ _ _ c.line_length-end.ensures c.in-Some.ensures.0 c.read_behind.ensures

@@ -32,7 +32,7 @@ take_part-requires-3 c =
     record {
       fine = record { some_number = omega arith; width = omega arith; start = λ e. clash e refl };
       within = (c.in_ok-singles_at.ensures.right _ refl).within;
-      rows = omega (arith, c.in_ok-latches_at.ensures.same, c.in_ok-singles_at.ensures.same, c.requires.2, small);
+      rows = omega (arith, c.in_ok-latches_at.ensures.same, c.in_ok-singles_at.ensures.same, small);
       lines = omega (arith, c.behind.ensures, c.behind-2.ensures, small);
     }
 
