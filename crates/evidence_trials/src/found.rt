@@ -23,14 +23,14 @@ fn collect<'b>(
     never: bool,
     room: &'b mut [u64; 20],
 ) -> &'b [u64] {
-    let mut k = 0;
-    for (s, d) in dist.iter().enumerate() {
-        if s < tables::size(n) && d.is_none() == never && k < 20 {
-            room[k] = s as u64;
-            k += 1;
-        }
+    let all = dist.iter().enumerate().take(tables::size(n));
+    let states = all.filter(|(_, d)| d.is_none() == never);
+    let mut count = 0;
+    for (k, (slot, (s, _))) in room.iter_mut().zip(states).enumerate() {
+        *slot = s as u64;
+        count = k + 1;
     }
-    small_systems::front(room, k)
+    small_systems::front(room, count)
 }
 
 // Whether t can come after s, or at the beginning.

@@ -56,6 +56,7 @@ fn entry(wanted: Result<Listing, Unlisted>, list: &[u64], j: usize) -> u64 {
 }
 
 // What a call told, as a number: of the refusal, of the states and of the questions.
+// Stays: `number` of wires_trials shifts otherwise, which the printed digests fix, and no crate below both programs knows `Listing` but the tested one.
 fn number(said: Result<Listing, Unlisted>) -> u64 {
     match said {
         Ok(listing) => (listing.count as u64) << 8 | (listing.questions as u64) << 32,

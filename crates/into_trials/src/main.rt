@@ -25,69 +25,78 @@ const STEP_SEED: u64 = 0x1656_67B1_9E37_79F9;
 
 const BAD_SEED: u64 = 0xFF51_AFD7_ED55_8CCD;
 
-// The states that step to t, from 0 up.
-fn walk<'b>(s: System, t: u64, room: &'b mut [u64; 1024]) -> &'b [u64] {
-    let mut count = 0;
-    for state in 0..tables::size(s.n) as u64 {
-        if count < 1024 && tables::list_holds(s.step, state | t << 32, 0) {
-            room[count] = state;
-            count += 1;
-        }
-    }
-    small_systems::front(room, count)
-}
-
-// A call, held against what it has to tell and against the list of the walk, and counted.
-fn ask(
-    counts: &mut Counts<PLACES>,
-    s: System,
+// A system, and the number that it is given.
+#[derive(Clone, Copy, Debug)]
+struct Call<'a> {
+    s: System<'a>,
     state: u64,
-    store: &mut [u64],
-    list: &[u64],
-    wanted: Result<Listing, Unlisted>,
-) {
-    let said = into::list(checks::system_of(s), state, store);
-    entered::enter(counts, said, wanted, store, list);
 }
 
-// A call that is refused before a question. The store, of a few numbers, has to stay as it is.
-fn refuse(counts: &mut Counts<PLACES>, s: System, state: u64, refusal: Refusal, random: u64) {
-    let mut store = [FILLED; 16];
-    let room = ((random >> 48) % 17) as usize;
-    let wanted = Err(Unlisted {
-        refusal,
-        questions: 0,
-    });
-    ask(counts, s, state, &mut store[..room], &[], wanted);
-}
+impl<'a> Call<'a> {
+    // The states that step to the given one, from 0 up.
+    fn walk<'b>(self, room: &'b mut [u64; 1024]) -> &'b [u64] {
+        let Call { s, state } = self;
+        let all = 0..tables::size(s.n) as u64;
+        let found = all.filter(|from| tables::list_holds(s.step, *from | state << 32, 0));
+        let mut count = 0;
+        for (k, (slot, from)) in room.iter_mut().zip(found).enumerate() {
+            *slot = from;
+            count = k + 1;
+        }
+        small_systems::front(room, count)
+    }
 
-// A call with a store of this length, which is at most two more than the number of states.
-fn lend(counts: &mut Counts<PLACES>, s: System, state: u64, list: &[u64], length: usize) {
-    let mut store = [FILLED; 1026];
-    let room = length.min(1026);
-    let right = list.len();
-    let wanted = if right <= room {
-        Ok(Listing {
-            count: right,
-            questions: right.wrapping_add(1),
-        })
-    } else {
-        Err(Unlisted {
-            refusal: Refusal::Store,
-            questions: room.wrapping_add(1),
-        })
-    };
-    ask(counts, s, state, &mut store[..room], list, wanted);
-}
+    // A call, held against what it has to tell and against the list of the walk, and counted.
+    fn ask(
+        self,
+        counts: &mut Counts<PLACES>,
+        store: &mut [u64],
+        list: &[u64],
+        wanted: Result<Listing, Unlisted>,
+    ) {
+        let said = into::list(checks::system_of(self.s), self.state, store);
+        entered::enter(counts, said, wanted, store, list);
+    }
 
-// One given state, and a store of each length: none, and from two less than the right one to two more.
-fn lengths(counts: &mut Counts<PLACES>, s: System, state: u64) {
-    let mut room = [0; 1024];
-    let list = walk(s, state, &mut room);
-    lend(counts, s, state, list, 0);
-    for more in 1..6 {
-        let length = list.len().saturating_add(more).saturating_sub(3);
-        lend(counts, s, state, list, length);
+    // A call that is refused before a question. The store, of a few numbers, has to stay as it is.
+    fn refuse(self, counts: &mut Counts<PLACES>, refusal: Refusal, random: u64) {
+        let mut store = [FILLED; 16];
+        let room = ((random >> 48) % 17) as usize;
+        let wanted = Err(Unlisted {
+            refusal,
+            questions: 0,
+        });
+        self.ask(counts, &mut store[..room], &[], wanted);
+    }
+
+    // A call with a store of this length, which is at most two more than the number of states.
+    fn lend(self, counts: &mut Counts<PLACES>, list: &[u64], length: usize) {
+        let mut store = [FILLED; 1026];
+        let room = length.min(1026);
+        let right = list.len();
+        let wanted = if right <= room {
+            Ok(Listing {
+                count: right,
+                questions: right.wrapping_add(1),
+            })
+        } else {
+            Err(Unlisted {
+                refusal: Refusal::Store,
+                questions: room.wrapping_add(1),
+            })
+        };
+        self.ask(counts, &mut store[..room], list, wanted);
+    }
+
+    // A store of each length: none, and from two less than the right one to two more.
+    fn lengths(self, counts: &mut Counts<PLACES>) {
+        let mut room = [0; 1024];
+        let list = self.walk(&mut room);
+        self.lend(counts, list, 0);
+        for more in 1..6 {
+            let length = list.len().saturating_add(more).saturating_sub(3);
+            self.lend(counts, list, length);
+        }
     }
 }
 
@@ -96,8 +105,16 @@ fn targets(counts: &mut Counts<PLACES>, s: System, seed: u64) {
     let mut random = seed;
     for given in NO_STATES {
         random = small_systems::next(random);
-        lengths(counts, s, Given::State.number(s.n, random >> 8));
-        refuse(counts, s, given.number(s.n, random), Refusal::Given, random);
+        let right = Call {
+            s,
+            state: Given::State.number(s.n, random >> 8),
+        };
+        right.lengths(counts);
+        let wrong = Call {
+            s,
+            state: given.number(s.n, random),
+        };
+        wrong.refuse(counts, Refusal::Given, random);
     }
 }
 

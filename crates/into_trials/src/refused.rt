@@ -1,6 +1,6 @@
 // Calls of systems that are wrong, which are refused before a question whatever number is given.
+use super::Call;
 use super::entered::PLACES;
-use super::refuse;
 use super::systems::Given;
 use base::Refusal;
 use counts::Counts;
@@ -69,18 +69,12 @@ const WAYS: [Way; 11] = [
 fn call(counts: &mut Counts<PLACES>, way: Way, n: u32, random: u64) {
     let Way(fault, which, masks) = way;
     let clause = [fault.mask(n), 0, 0, 0];
-    refuse(
-        counts,
-        System::of_one(
-            fault.bits(n),
-            0,
-            which,
-            small_systems::front(&clause, masks),
-        ),
-        Given::of_bits(random >> 16).number(n, random),
-        fault.refusal(),
-        random,
-    );
+    let list = small_systems::front(&clause, masks);
+    let wrong = Call {
+        s: System::of_one(fault.bits(n), 0, which, list),
+        state: Given::of_bits(random >> 16).number(n, random),
+    };
+    wrong.refuse(counts, fault.refusal(), random);
 }
 
 // Every way.

@@ -315,18 +315,6 @@ fn put(store: &mut [u64], count: usize, c: Clause) -> usize {
     count + 4
 }
 
-// Distance 0 for a start state, or for a bad one; none for the others.
-fn begin(table: Table, back: bool, dist: &mut [Option<u32>]) {
-    for (s, d) in dist.iter_mut().enumerate() {
-        let first = if back {
-            table.is_bad(s)
-        } else {
-            table.is_start(s)
-        };
-        *d = first.then_some(0);
-    }
-}
-
 // A step from a state at distance d to one that had none. Whether it was so.
 fn reach(dist: &mut [Option<u32>], from: usize, to: usize, d: u32) -> bool {
     let reached = from < dist.len()
@@ -339,26 +327,28 @@ fn reach(dist: &mut [Option<u32>], from: usize, to: usize, d: u32) -> bool {
     reached
 }
 
-// Pair j, if it is a step, taken in its direction or back.
-fn follow(table: Table, back: bool, dist: &mut [Option<u32>], j: usize, d: u32) -> bool {
-    let s = tables::low(table.n, j as u64) as usize;
-    let t = j >> (table.n % 16);
-    let from = if back { t } else { s };
-    table.at(s, t) && reach(dist, from, s ^ t ^ from, d)
-}
-
-// All steps from states at distance d. Whether some state was reached.
+// All steps from states at distance d, taken in their direction or back. Whether some state was reached.
 fn spread(table: Table, back: bool, dist: &mut [Option<u32>], d: u32) -> bool {
     let mut some = false;
-    for j in 0..1 << (table.n % 16 * 2) {
-        some |= follow(table, back, dist, j, d);
+    for s in 0..tables::size(table.n) {
+        for t in 0..tables::size(table.n) {
+            let (from, to) = if back { (t, s) } else { (s, t) };
+            some |= table.at(s, t) && reach(dist, from, to, d);
+        }
     }
     some
 }
 
 // For each state the least number of steps from a start state to it; or, going back, from it to a bad one. None, if there is no way.
 pub fn distances(table: Table, back: bool, dist: &mut [Option<u32>]) {
-    begin(table, back, dist);
+    for (s, d) in dist.iter_mut().enumerate() {
+        let first = if back {
+            table.is_bad(s)
+        } else {
+            table.is_start(s)
+        };
+        *d = first.then_some(0);
+    }
     let mut d = 0;
     // Stays: the edit `spreads_from_one_distance_for_ever` needs a loop that can stay at one distance, and a `for` cannot.
     while d < 65536 {

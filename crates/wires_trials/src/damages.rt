@@ -1,11 +1,12 @@
 // Evidence, whole and damaged, given to both checks and held against the table.
 use super::places::PLACES;
+use super::systems::Case;
 use super::{places, systems};
 use base::Refusal;
 use checks::Check;
 use counts::Counts;
 use evidence::Checked;
-use tables::{System, Table};
+use tables::Table;
 
 // How many damages of one list are tried.
 const DAMAGES: u64 = 6;
@@ -41,16 +42,6 @@ fn is_right(said: Result<Checked, Refusal>, check: Check, table: Table, list: &[
     }
 }
 
-// A list given to both checks.
-fn both(counts: &mut Counts<PLACES>, s: System, table: Table, list: &[u64]) {
-    for check in [Check::Excluded, Check::Path] {
-        let said = check.ask(s, list);
-        counts.add(place_of(said), 1);
-        counts.count(places::CHECKS_WRONG, !is_right(said, check, table, list));
-        counts.stir(places::CHECKS, number(said));
-    }
-}
-
 // The list in front of zeros, with a number put at a place.
 fn copy(list: &[u64], place: usize, number: u64) -> [u64; ROOM] {
     let mut out = [0; ROOM];
@@ -64,23 +55,38 @@ fn copy(list: &[u64], place: usize, number: u64) -> [u64; ROOM] {
     out
 }
 
-// One damage: a number up to 2^n at some place, or at the one behind the last; and the last one cut off, or kept, or one more.
-fn damage(counts: &mut Counts<PLACES>, s: System, table: Table, list: &[u64], random: u64) {
-    let ends = list.len().wrapping_add(1);
-    let place = systems::below(ends as u64, random >> 8) as usize;
-    let number = systems::below(tables::size(s.n) as u64 | 1, random >> 16);
-    let cut = ends.wrapping_sub((random >> 24) as usize % 3);
-    let made = copy(list, place, number);
-    let length = if list.is_empty() { 1 } else { cut };
-    both(counts, s, table, small_systems::front(&made, length));
-}
+impl<'a> Case<'a> {
+    // A list given to both checks.
+    fn both(self, counts: &mut Counts<PLACES>, list: &[u64]) {
+        for check in [Check::Excluded, Check::Path] {
+            let said = check.ask(self.s, list);
+            counts.add(place_of(said), 1);
+            counts.count(
+                places::CHECKS_WRONG,
+                !is_right(said, check, self.table, list),
+            );
+            counts.stir(places::CHECKS, number(said));
+        }
+    }
 
-// The list itself, and some damages.
-pub fn calls(counts: &mut Counts<PLACES>, s: System, table: Table, list: &[u64], seed: u64) {
-    both(counts, s, table, list);
-    let mut random = seed;
-    for _ in 0..DAMAGES {
-        random = small_systems::next(random);
-        damage(counts, s, table, list, random);
+    // One damage: a number up to 2^n at some place, or at the one behind the last; and the last one cut off, or kept, or one more.
+    fn damage(self, counts: &mut Counts<PLACES>, list: &[u64], random: u64) {
+        let ends = list.len().wrapping_add(1);
+        let place = systems::below(ends as u64, random >> 8) as usize;
+        let number = systems::below(tables::size(self.s.n) as u64 | 1, random >> 16);
+        let cut = ends.wrapping_sub((random >> 24) as usize % 3);
+        let made = copy(list, place, number);
+        let length = if list.is_empty() { 1 } else { cut };
+        self.both(counts, small_systems::front(&made, length));
+    }
+
+    // The list itself, and some damages.
+    pub fn damages(self, counts: &mut Counts<PLACES>, list: &[u64], seed: u64) {
+        self.both(counts, list);
+        let mut random = seed;
+        for _ in 0..DAMAGES {
+            random = small_systems::next(random);
+            self.damage(counts, list, random);
+        }
     }
 }

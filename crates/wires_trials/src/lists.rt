@@ -1,10 +1,11 @@
 // The states that step into each state of a system, listed and held against the table.
 use super::places;
 use super::places::PLACES;
+use super::systems::Case;
 use base::Refusal;
 use counts::Counts;
 use into::{Listing, Unlisted};
-use tables::{System, Table};
+use tables::Table;
 
 // What a store holds beforehand.
 const FILLED: u64 = 9;
@@ -14,17 +15,17 @@ const ROOM: usize = 33;
 
 // The states that step to t, by the table, from 0 up.
 fn row_of<'b>(table: Table, t: usize, room: &'b mut [u64; ROOM]) -> &'b [u64] {
+    let states = (0..32).filter(|s| table.is_step(*s, t));
     let mut count = 0;
-    for s in 0..32 {
-        if count < ROOM && table.is_step(s, t) {
-            room[count] = s as u64;
-            count += 1;
-        }
+    for (k, (slot, s)) in room.iter_mut().zip(states).enumerate() {
+        *slot = s as u64;
+        count = k + 1;
     }
     small_systems::front(room, count)
 }
 
 // What a call told, as a number: of the refusal, of the states and of the questions.
+// Stays: `number` of into_trials shifts otherwise, which the printed digests fix, and no crate below both programs knows `Listing` but the tested one.
 fn number(said: Result<Listing, Unlisted>) -> u64 {
     match said {
         Ok(listing) => (listing.count as u64) << 8 | (listing.questions as u64) << 16,
@@ -64,18 +65,18 @@ fn enter(counts: &mut Counts<PLACES>, said: Result<Listing, Unlisted>, store: &[
 }
 
 // One state. There is room for all states; for every fourth state room for two.
-fn list(counts: &mut Counts<PLACES>, s: System, table: Table, t: usize) {
+fn list(counts: &mut Counts<PLACES>, case: Case, t: usize) {
     let mut row = [0; ROOM];
     let mut store = [FILLED; ROOM];
     let length = if t % 4 == 3 { 2 } else { ROOM };
     let store = &mut store[..length];
-    let said = into::list(checks::system_of(s), t as u64, store);
-    enter(counts, said, store, row_of(table, t, &mut row));
+    let said = into::list(checks::system_of(case.s), t as u64, store);
+    enter(counts, said, store, row_of(case.table, t, &mut row));
 }
 
 // Every state.
-pub fn calls(counts: &mut Counts<PLACES>, s: System, table: Table) {
-    for t in 0..tables::size(s.n) {
-        list(counts, s, table, t);
+pub fn calls(counts: &mut Counts<PLACES>, case: Case) {
+    for t in 0..tables::size(case.s.n) {
+        list(counts, case, t);
     }
 }

@@ -13,8 +13,8 @@ mod systems;
 
 use counts::Counts;
 use places::PLACES;
-use systems::Wiring;
-use tables::{System, Table};
+use systems::{Case, Wiring};
+use tables::System;
 
 // How many systems, and where the numbers start.
 const SYSTEMS: u64 = 4000;
@@ -40,11 +40,12 @@ fn enter(counts: &mut Counts<PLACES>, wires: Wiring) {
 }
 
 // Entry j of the table: a step or, behind the start states, a bad state. Whether it needs a wire at 1.
-fn survey(counts: &mut Counts<PLACES>, s: System, table: Table, j: usize) {
+fn survey(counts: &mut Counts<PLACES>, case: Case, j: usize) {
+    let s = case.s;
     let state = tables::low(s.n, j as u64);
     let row = j >> (s.n % 16);
     let size = tables::size(s.n);
-    let true_of = table.at(state as usize, row);
+    let true_of = case.table.at(state as usize, row);
     let pair = state | (row as u64) << 32;
     if row < size {
         counts.count(places::STEPS, true_of);
@@ -63,11 +64,11 @@ fn survey(counts: &mut Counts<PLACES>, s: System, table: Table, j: usize) {
 }
 
 // All calls of a system.
-fn calls(counts: &mut Counts<PLACES>, s: System, table: Table, shape: u64) {
-    searches::calls(counts, s, table, shape);
-    lists::calls(counts, s, table);
-    questions::calls(counts, s, table, true, shape);
-    questions::calls(counts, s, table, false, shape >> 1);
+fn calls(counts: &mut Counts<PLACES>, case: Case, shape: u64) {
+    searches::calls(counts, case, shape);
+    lists::calls(counts, case);
+    questions::calls(counts, case, true, shape);
+    questions::calls(counts, case, false, shape >> 1);
 }
 
 // A system with wires from 0 on: its table is made, then its wires are shifted.
@@ -77,7 +78,7 @@ fn shift(counts: &mut Counts<PLACES>, wires: Wiring, s: System, shape: u64) {
     let mut bad = [0; 128];
     let table = s.table(&mut room);
     for j in 0..(1usize << (s.n % 16 * 2)).wrapping_add(2 << (s.n % 16)) {
-        survey(counts, s, table, j);
+        survey(counts, Case { s, table }, j);
     }
     let shifted = System {
         n: s.n,
@@ -86,7 +87,7 @@ fn shift(counts: &mut Counts<PLACES>, wires: Wiring, s: System, shape: u64) {
         step: wires.lifted(s.step, &mut step),
         bad: wires.lifted(s.bad, &mut bad),
     };
-    calls(counts, shifted, table, shape);
+    calls(counts, Case { s: shifted, table }, shape);
 }
 
 // System number i.

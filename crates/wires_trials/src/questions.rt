@@ -2,9 +2,10 @@
 // depends on it.
 use super::places;
 use super::places::PLACES;
+use super::systems::Case;
 use counts::Counts;
 use question::Free;
-use tables::{System, Table};
+use tables::Table;
 
 // How many questions, and how many pairs, of step and as many of bad.
 const TURNS: u64 = 4;
@@ -34,9 +35,11 @@ impl Order {
     }
 }
 
-// A question: the state to step to, or none where a bad state is asked for; the level; where it begins; and the stored states with their levels.
+// A question: the list that it is about; the state to step to, or none where a bad state is asked for; the level; where it begins; and the stored states
+// with their levels.
 #[derive(Clone, Copy, Debug)]
 struct Query<'a> {
+    list: &'a [u64],
     target: Option<u64>,
     i: u32,
     from: u64,
@@ -69,19 +72,13 @@ impl<'a> Query<'a> {
     }
 
     // What the engine says.
-    fn ask(
-        self,
-        free: Free,
-        order: &[u64; order::TABLE],
-        start: &[u64],
-        list: &[u64],
-    ) -> Option<u64> {
+    fn ask(self, free: Free, order: &[u64; order::TABLE], start: &[u64]) -> Option<u64> {
         match self.target {
             Some(target) => question::step_in(
                 free,
                 order,
                 start,
-                list,
+                self.list,
                 self.states,
                 self.levels,
                 self.i,
@@ -92,7 +89,7 @@ impl<'a> Query<'a> {
                 free,
                 order,
                 start,
-                list,
+                self.list,
                 self.states,
                 self.levels,
                 self.i,
@@ -100,37 +97,31 @@ impl<'a> Query<'a> {
             ),
         }
     }
-}
 
-// A question and a pair, each asked four times. Numbers above the 32 low bits of both states of a pair say nothing.
-fn turns(
-    counts: &mut Counts<PLACES>,
-    s: System,
-    table: Table,
-    list: &[u64],
-    q: Query,
-    random: u64,
-) {
-    let wanted = q.walk(table);
-    let state = tables::low(s.n, random >> 32);
-    let so = q.holds(table, state);
-    let high = random >> 40;
-    let pair = (state | high << 32, q.target.unwrap_or(0) | high << 40);
-    for order in ORDERS {
-        // the last time with more wires declared than there can be
-        let free = Free {
-            n: s.n,
-            w: if order == Order::Any { s.w | 64 } else { s.w },
-        };
-        let order = order.table(list, s.w, random);
-        let said = q.ask(free, &order, s.start, list);
-        counts.count(places::FOUND, said.is_some());
-        counts.count(places::QUESTIONS_WRONG, said != wanted);
-        counts.stir(places::QUESTIONS, said.unwrap_or(u64::MAX));
-        let said = question::some_true(free, &order, list, pair.0, pair.1);
-        counts.count(places::TRUE, said);
-        counts.count(places::QUESTIONS_WRONG, said != so);
-        counts.stir(places::QUESTIONS, u64::from(said));
+    // The question and a pair, each asked four times. Numbers above the 32 low bits of both states of a pair say nothing.
+    fn turns(self, counts: &mut Counts<PLACES>, case: Case, random: u64) {
+        let s = case.s;
+        let wanted = self.walk(case.table);
+        let state = tables::low(s.n, random >> 32);
+        let so = self.holds(case.table, state);
+        let high = random >> 40;
+        let pair = (state | high << 32, self.target.unwrap_or(0) | high << 40);
+        for order in ORDERS {
+            // the last time with more wires declared than there can be
+            let free = Free {
+                n: s.n,
+                w: if order == Order::Any { s.w | 64 } else { s.w },
+            };
+            let order = order.table(self.list, s.w, random);
+            let said = self.ask(free, &order, s.start);
+            counts.count(places::FOUND, said.is_some());
+            counts.count(places::QUESTIONS_WRONG, said != wanted);
+            counts.stir(places::QUESTIONS, said.unwrap_or(u64::MAX));
+            let said = question::some_true(free, &order, self.list, pair.0, pair.1);
+            counts.count(places::TRUE, said);
+            counts.count(places::QUESTIONS_WRONG, said != so);
+            counts.stir(places::QUESTIONS, u64::from(said));
+        }
     }
 }
 
@@ -145,13 +136,15 @@ fn fill(n: u32, states: &mut [u64; STORED], levels: &mut [u32; STORED], seed: u6
 }
 
 // One question about step, or about bad, from the front parts of what is stored: at times with fewer levels than states, or more.
-fn ask_one(counts: &mut Counts<PLACES>, s: System, table: Table, steps: bool, random: u64) {
+fn ask_one(counts: &mut Counts<PLACES>, case: Case, steps: bool, random: u64) {
+    let s = case.s;
     let mut states = [0; STORED];
     let mut levels = [0; STORED];
     fill(s.n, &mut states, &mut levels, random);
     let stored = ((random >> 48) % 17) as usize;
     let known = ((random >> 52) % 17) as usize;
     let q = Query {
+        list: if steps { s.step } else { s.bad },
         target: steps.then_some(tables::low(s.n, random >> 16)),
         i: ((random >> 4) % 4) as u32,
         from: if (random >> 8) % 2 == 0 {
@@ -162,15 +155,14 @@ fn ask_one(counts: &mut Counts<PLACES>, s: System, table: Table, steps: bool, ra
         states: &states[..stored],
         levels: &levels[..known],
     };
-    let list = if steps { s.step } else { s.bad };
-    turns(counts, s, table, list, q, random);
+    q.turns(counts, case, random);
 }
 
 // All questions about step, or about bad.
-pub fn calls(counts: &mut Counts<PLACES>, s: System, table: Table, steps: bool, seed: u64) {
+pub fn calls(counts: &mut Counts<PLACES>, case: Case, steps: bool, seed: u64) {
     let mut random = seed;
     for _ in 0..TURNS {
         random = small_systems::next(random);
-        ask_one(counts, s, table, steps, random);
+        ask_one(counts, case, steps, random);
     }
 }

@@ -1,10 +1,11 @@
 // Searches of a system, held against the table.
+use super::places;
 use super::places::PLACES;
-use super::{damages, places};
+use super::systems::Case;
 use call::Outcome;
 use checks::{Check, Stores};
 use counts::Counts;
-use tables::{System, Table};
+use tables::Table;
 
 // What the stores hold beforehand.
 const FILLED: u64 = 9;
@@ -37,17 +38,10 @@ fn enter(counts: &mut Counts<PLACES>, outcome: Outcome, length: usize) {
 }
 
 // What a search told and left in the stores, held against the table, and its evidence given to the checks.
-fn look(
-    counts: &mut Counts<PLACES>,
-    s: System,
-    table: Table,
-    outcome: Outcome,
-    stores: Stores,
-    seed: u64,
-) {
+fn look(counts: &mut Counts<PLACES>, case: Case, outcome: Outcome, stores: Stores, seed: u64) {
     let list = call::evidence(stores.states, stores.path, outcome);
     let check = Check::of(outcome);
-    let right = is_right(check, table, list) && stores.levels.iter().all(|level| *level == 0);
+    let right = is_right(check, case.table, list) && stores.levels.iter().all(|level| *level == 0);
     let head = u64::from(call::number(outcome))
         | Check::number(check) << 8
         | u64::from(call::questions(outcome)) << 16;
@@ -58,19 +52,12 @@ fn look(
         small_systems::digest(small_systems::digest(head, stores.states), stores.path),
     );
     if check.is_some() {
-        damages::calls(counts, s, table, list, seed);
+        case.damages(counts, list, seed);
     }
 }
 
 // A search with so much room.
-fn search(
-    counts: &mut Counts<PLACES>,
-    s: System,
-    table: Table,
-    room: usize,
-    allowance: u32,
-    seed: u64,
-) {
+fn search(counts: &mut Counts<PLACES>, case: Case, room: usize, allowance: u32, seed: u64) {
     let mut states = [FILLED; ROOM];
     let mut levels = [FILLED_LEVEL; ROOM];
     let mut path = [FILLED; ROOM + 2];
@@ -78,20 +65,20 @@ fn search(
     let states = &mut states[..room];
     let levels = &mut levels[..room];
     let path = &mut path[..room + 2];
-    let outcome = search::search(checks::system_of(s), states, levels, path, allowance);
+    let outcome = search::search(checks::system_of(case.s), states, levels, path, allowance);
     let stores = Stores {
         states,
         levels,
         path,
     };
-    look(counts, s, table, outcome, stores, seed);
+    look(counts, case, outcome, stores, seed);
 }
 
 // A search with room and leave enough, one with a small room, and one with a small allowance.
-pub fn calls(counts: &mut Counts<PLACES>, s: System, table: Table, shape: u64) {
+pub fn calls(counts: &mut Counts<PLACES>, case: Case, shape: u64) {
     let room = ((shape >> 44) % 4) as usize;
     let leave = ((shape >> 46) % 16) as u32;
-    search(counts, s, table, ROOM, 100000, shape);
-    search(counts, s, table, room, 100000, shape >> 1);
-    search(counts, s, table, ROOM, leave, shape >> 2);
+    search(counts, case, ROOM, 100000, shape);
+    search(counts, case, room, 100000, shape >> 1);
+    search(counts, case, ROOM, leave, shape >> 2);
 }

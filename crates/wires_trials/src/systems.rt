@@ -1,5 +1,13 @@
 // Which systems are tried: the bits of each, the wires that its lists use and those that are declared, the kinds of its lists and how dense they are.
 use small_systems::{Kind, Plan};
+use tables::{System, Table};
+
+// A system, and its table.
+#[derive(Clone, Copy, Debug)]
+pub struct Case<'a> {
+    pub s: System<'a>,
+    pub table: Table<'a>,
+}
 
 // A system's bits; the wires that step and bad may use, six at most, numbered from 0; by how many they are then shifted up; and how many are declared.
 #[derive(Clone, Copy, Debug)]
