@@ -15,6 +15,7 @@ ghost use Rattle.call.specs.Promise.{stores, Promised};
 ghost use Rattle.search.specs.Lent.{stores_of};
 ghost use Rattle.search.specs.Inner.{SameSlices, Finishes, Closing, Closes};
 
+use base::Refusal;
 use react::Verdict;
 use store::Lent;
 use system::System;
@@ -74,7 +75,7 @@ pub fn search(
         return call::Outcome::Refused(refusal.into());
     }
     if call::wrong_stores(states, levels, path) {
-        return call::Outcome::Refused(4);
+        return call::Outcome::Refused(Refusal::Stores.into());
     }
     let step_table = order::table(system.step, system.w);
     let bad_table = order::table(system.bad, system.w);

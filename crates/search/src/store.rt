@@ -71,7 +71,7 @@ impl Lent<'_> {
         ensures { LeastGap self.now.levels.now count N result }
     {
         let mut i: u32 = 1;
-        // Stays: a rule of the project names this form for this place: a loop over levels, with a walk inside that is left by label (decision 140).
+        // Stays: the request names this form for this place: a loop over levels, with a walk inside that is left by label, yields the level (decision 140).
         let level = 'levels: loop {
             if i == N {
                 break N;

@@ -2,7 +2,7 @@
 // that it is compared with. Each function takes every argument.
 #![tactic(auto)]
 
-ghost use Rattle.std.specs.Prelude.{◌≡◌, ◌%◌};
+ghost use Rattle.std.specs.Prelude.{◌≡◌, ◌%◌, min};
 ghost use Rattle.small_systems.specs.Kind.{number_of};
 ghost use Rattle.small_systems.specs.Random.{next_of};
 
@@ -10,7 +10,7 @@ use tables::{Clause, Table};
 
 // Kinds of lists. Nothing is one clause of two zero masks, Everything the empty list. Clauses has as many short clauses as the density says. The
 // others give what is true explicitly, with a clause for each state or pair left out: Part of them, by the density; in a Chain steps to the next state
-// alone; in Loops these and from each state to itself; Down steps to no higher state. Counter has steps to the next state alone too, in a few clauses;
+// alone; in Loops these and from each state to itself; Down steps to no higher state; Barred is nothing. Counter has steps to the next state alone too, in a few clauses;
 // with an odd density the highest state has no next one, else 0 comes after it. Short clauses may use wires. Gates is a circuit: a wire is free or the
 // AND of two literals, and one step later each bit is as a literal; of states alone, that a literal is true.
 #[derive(Clone, Copy, Debug, PartialEq, Eq)]
@@ -24,22 +24,34 @@ pub enum Kind {
     Down,
     Counter,
     Gates,
+    Barred,
+}
+
+// The kinds by their numbers; every number behind those of the others is Barred.
+impl From<u64> for Kind {
+    ghost from_gives = { λ n kind. number_of kind ≡ min n 9 };
+
+    fn from(n: u64) -> Kind {
+        match n {
+            0 => Kind::Nothing,
+            1 => Kind::Everything,
+            2 => Kind::Part,
+            3 => Kind::Clauses,
+            4 => Kind::Chain,
+            5 => Kind::Loops,
+            6 => Kind::Down,
+            7 => Kind::Counter,
+            8 => Kind::Gates,
+            _ => Kind::Barred,
+        }
+    }
 }
 
 // One of the first eight kinds, from three random bits.
 pub fn kind_of(bits: u64) -> Kind
     ensures { number_of result ≡ bits % 8 }
 {
-    match bits % 8 {
-        0 => Kind::Nothing,
-        1 => Kind::Everything,
-        2 => Kind::Part,
-        3 => Kind::Clauses,
-        4 => Kind::Chain,
-        5 => Kind::Loops,
-        6 => Kind::Down,
-        _ => Kind::Counter,
-    }
+    Kind::from(bits % 8)
 }
 
 // What a random list is like: its kind and how dense it is, the bits and the wires that it may use, and whether it is of steps, or of states alone.

@@ -20,7 +20,9 @@ pub returns-in-Err : goal.returns-in-Err
 returns-in-Err c = rw c.into.ensures (system_promised _ _ _ _ c.in-Err.ensures (number_not_none _))
 
 pub returns-then-wrong_stores : goal.returns-then-wrong_stores
-returns-then-wrong_stores c = stores_promised _ _ _ (sym c.in_default.ensures) (sym c.wrong_stores.ensures ∙ c.if-wrong_stores.true)
+returns-then-wrong_stores c =
+    rw c.into-then-wrong_stores.ensures
+    (stores_promised _ _ _ (sym c.in_default.ensures) (sym c.wrong_stores.ensures ∙ c.if-wrong_stores.true))
 
 pub searched-ending-requires : goal.searched-ending-requires
 searched-ending-requires c =
