@@ -140,7 +140,7 @@ pub fn most(m: usize) -> u32 {
 // Where a kind of steps is counted.
 fn place_of(kind: Kind) -> usize {
     let number = match kind {
-        Kind::Nothing | Kind::Gates => 0,
+        Kind::Nothing | Kind::Gates | Kind::Barred => 0,
         Kind::Everything => 1,
         Kind::Part => 2,
         Kind::Clauses => 3,
