@@ -116,7 +116,8 @@ module _ {text : List ℕ} {r : Reading} {rows : List Row} (h : Held text r rows
         )
 
     pub enters_system : (x : Singles) (clause : Clause) (q : Imported) (after : Lists) → Enters x (flattened rows) H clause lent q after
-        → clause ≡ marks (place_by (flattened rows) H.latches) empty (watched_of H literals) → Constraints x.text.now x.at x.count (constraints_of H literals)
+        → clause ≡ marks (place_by (flattened rows) H.latches) empty (watched_of H literals)
+        → Constraints x.text.now x.at x.count (constraints_of H literals)
         → ◌≡◌ {A = Result} (record { import = report_of (Ok q); after = after }) (entered (imported (circuit_in h)) lent)
     unfolding entered filled imported
     enters_system x clause q after e o again =
