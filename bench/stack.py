@@ -15,6 +15,17 @@ def number(expression):
     return int(gdb.parse_and_eval("(long) (%s)" % expression))
 
 
+def named(function):
+    """The whole name of a function of questions: a method of what is asked, or in an older commit a function of the crate or of its engine."""
+    for place in "question::engine::Asked::", "question::engine::", "question::":
+        try:
+            number("&'%s%s'" % (place, function))
+            return place + function
+        except gdb.error:
+            pass
+    raise gdb.GdbError("no function " + function)
+
+
 class Calls(gdb.Breakpoint):
     """The calls of a function: where the frames of those that have not returned begin, the most of them at a time, and the deepest."""
 
@@ -66,14 +77,19 @@ def main():
     go()
     top = number("$rsp") + 8
     gdb.Breakpoint("*%d" % number("*(long *) $rsp"), internal=True)
-    first = gdb.Breakpoint("*%d" % number("&'question::ask'"), internal=True)
+    # at -O3 `ask` may stand within `step_in`
+    try:
+        ask = named("ask")
+    except gdb.GdbError:
+        ask = named("step_in")
+    first = gdb.Breakpoint("*%d" % number("&'%s'" % ask), internal=True)
     go()
     start = number("$rsp")
     filled = lowest(start)
     memory = gdb.selected_inferior()
     memory.write_memory(filled, bytes([FILL]) * (start - filled))
     first.delete()
-    questions, settles = Calls("question::ask"), Calls("question::engine::settle")
+    questions, settles = Calls(ask), Calls(named("settle"))
     questions.stop()
     go()
     low = lowest(start)

@@ -16,6 +16,17 @@ def number(expression):
     return int(gdb.parse_and_eval("(long) (%s)" % expression))
 
 
+def named(function):
+    """The whole name of a function of questions: a method of what is asked, or in an older commit a function of the crate or of its engine."""
+    for place in "question::engine::Asked::", "question::engine::", "question::":
+        try:
+            number("&'%s%s'" % (place, function))
+            return place + function
+        except gdb.error:
+            pass
+    raise gdb.GdbError("no function " + function)
+
+
 def value_tried():
     global tried, most
     tried += 1
@@ -57,9 +68,10 @@ gdb.execute("set confirm off")
 gdb.execute("starti", to_string=True)
 wanted = number("$asked")
 place = PLACE[gdb.selected_frame().architecture().name()]
-Question("*&'question::ask'", internal=True)
-Zero("*&'question::engine::attempt'", internal=True)
-for line in gdb.execute("disassemble 'question::engine::attempt'", to_string=True).splitlines():
+attempt = named("attempt")
+Question("*&'%s'" % named("ask"), internal=True)
+Zero("*&'%s'" % attempt, internal=True)
+for line in gdb.execute("disassemble '%s'" % attempt, to_string=True).splitlines():
     words = line.split()
     if words[-1] in ("ret", "retq"):
         Answer("*" + words[0], internal=True)

@@ -1,80 +1,79 @@
--- What is said of the rows from index i on, by the row at i: the index of a variable, whether a variable has two rows, whether each row's literals
--- are known. Where no row is left nothing more is said. Assumes nothing.
-use Prim.Native.Nat.{ℕ, suc, ◌+◌, ◌-◌, ◌/◌, ◌≤◌, ◌<◌}
-use mathlib.Core.Path.{◌≡◌, ◌∙◌}
-use mathlib.Core.Bool.{Bool, true, false, ◌&&◌, ◌||◌, and-false}
-use mathlib.Core.List.{List}
-use borrow.Author.Tests.{eq-eqb, ne_eqb, lt-ltb, le-ltb}
-use borrow.Author.Rules.{part_to_end}
-use lib.Dec.{ltb}
+-- What is said of rows, row by row: whether a variable has two rows, whether the literals of each are known, and how many latches start at a fixed
+-- value. Assumes nothing.
+use Prim.Native.Nat.{ℕ, zero, suc, ◌+◌, ◌-◌, ◌*◌, ◌/◌, ◌≤◌, ◌<◌}
+use mathlib.Core.Path.{◌≡◌, refl, ap}
+use mathlib.Core.Bool.{Bool, false, ◌&&◌, ◌||◌, and-false}
+use mathlib.Core.List.{List, [], ◌∷◌}
+use native.Mathlib.Omega.{arith}
+use borrow.Author.Tests.{lt-leb}
 use lib.ListN.{length, get_or, take, drop}
-use Rattle.circuit.specs.Circuit.{Gate, every, index}
+use lib.Seq.{take_all}
+use Rattle.std.specs.Prelude.{is_some, count_by, cond}
+use Rattle.std.proofs.lemmas.List.Recursion.{is_count_by}
+use Rattle.std.specs.List.{list_all, position}
+use Rattle.circuit.specs.Circuit.{Gate, every, first}
 use Rattle.circuit.specs.Refusals.{twice}
-use Rattle.aiger.specs.Text.{vars, gates_of}
-use Rattle.aiger.specs.Inner.{gate_of}
-use Rattle.aiger.proofs.Threes.{row_at, threes_next, threes_end, listed_rows}
+use Rattle.circuit.proofs.Sentences.{fixed}
+use Rattle.aiger.specs.Text.{threes, vars, latches_of}
+use Rattle.aiger.specs.Inner.{no_row, flattened, has_var, line_known, all_known, is_fixed, start_list, gate_of}
+use Rattle.aiger.specs.declared.table.Row.{Row}
+use Rattle.aiger.proofs.Threes.{found_any}
+use Rattle.aiger.proofs.Entering.{starts_many}
 
 -- a test of both literals of a gate, which one of them decides
-module _ (p : ℕ → Bool) where
-  abbrev pub both_pass : Gate → Bool
-  both_pass g = p g.left && p g.right
+abbrev pub both_pass : (ℕ → Bool) → Gate → Bool
+both_pass p g = p g.left && p g.right
 
-  pub left_fails : (g : Gate) → p g.left ≡ false → both_pass g ≡ false
-  left_fails g e = rw e
+pub left_fails : (p : ℕ → Bool) (g : Gate) → p g.left ≡ false → both_pass p g ≡ false
+left_fails p g e = rw e
 
-  pub right_fails : (g : Gate) → p g.right ≡ false → both_pass g ≡ false
-  right_fails g e = rw e (and-false (p g.left))
+pub right_fails : (p : ℕ → Bool) (g : Gate) → p g.right ≡ false → both_pass p g ≡ false
+right_fails p g e = rw e (and-false (p g.left))
 
-module _ (rows : List ℕ) (i : ℕ) where
-  -- the gate at i
-  abbrev pub gate_at : Gate
-  gate_at = row_at gate_of rows i
+-- the gate at k
+abbrev pub gate_at : List Row → ℕ → Gate
+gate_at rows k = gate_of (get_or rows k no_row).literal (get_or rows k no_row).second (get_or rows k no_row).third
 
-  module _ (h : i + 2 < length rows) where
-    pub index_here : (v : ℕ) → get_or rows i 0 / 2 ≡ v → index (vars (drop i rows)) v ≡ 0
-    unfolding index
-    index_here v e = rw (threes_next (λ a b c. a / 2) rows i h, eq-eqb (get_or rows i 0 / 2) v e, index)
+-- the rows behind the first, where there is one
+abbrev pub behind_first : List Row → List Row
+behind_first rows = take (length rows - 1) (drop 1 rows)
 
-    pub index_later : (v : ℕ) → (get_or rows i 0 / 2 ≡ v → ⊥) → index (vars (drop i rows)) v ≡ suc (index (vars (drop (i + 3) rows)) v)
-    unfolding index
-    index_later v e = rw (threes_next (λ a b c. a / 2) rows i h, ne_eqb (get_or rows i 0 / 2) v e, index)
+pub twice_next : (rows : List Row) → 1 ≤ length rows
+    → twice (vars (flattened rows))
+    ≡ (is_some (position (has_var ((get_or rows 0 no_row).literal / 2)) (behind_first rows)) || twice (vars (flattened (behind_first rows))))
+unfolding twice threes
+twice_next [] h = absurd (omega arith)
+twice_next (row ∷ rows) h =
+    let rest : behind_first (row ∷ rows) ≡ rows = take_all (length (row ∷ rows) - 1) rows (omega arith) in
+    rw (rest, found_any rows (row.literal / 2))
 
-    -- an index in the rest that is below their number says that the row's variable has a second row
-    abbrev rest : List ℕ
-    rest = take (length rows - (i + 3)) (drop (i + 3) rows)
+pub twice_end : (rows : List Row) → length rows < 1 → twice (vars (flattened rows)) ≡ false
+unfolding twice threes
+twice_end [] h = refl
+twice_end (row ∷ rows) h = absurd (omega arith)
 
-    twice_next : twice (vars (drop i rows)) ≡ (ltb (index (vars rest) (get_or rows i 0 / 2)) (length rest / 3) || twice (vars (drop (i + 3) rows)))
-    unfolding twice
-    twice_next =
-        rw (threes_next (λ a b c. a / 2) rows i h, ← listed_rows rest (get_or rows i 0 / 2), part_to_end rows (i + 3))
+pub lines_known : (vs : List ℕ) (rows : List Row) → list_all (line_known vs) rows ≡ all_known vs (flattened rows)
+unfolding every threes
+lines_known vs [] = refl
+lines_known vs (row ∷ rows) = ap (λ (t : Bool). line_known vs row && t) (lines_known vs rows)
 
-    pub twice_found : index (vars rest) (get_or rows i 0 / 2) < length rest / 3 → twice (vars (drop i rows)) ≡ true
-    twice_found l = twice_next ∙ rw (lt-ltb (index (vars rest) (get_or rows i 0 / 2)) (length rest / 3) l)
+fixed_next : (row : Row) (rows : List Row) → fixed (latches_of (flattened (row ∷ rows)))
+    ≡ cond (is_fixed row) (1 + fixed (latches_of (flattened rows))) (fixed (latches_of (flattened rows)))
+unfolding threes fixed first
+fixed_next row rows = by_start row.third refl
+  where
+    by_start : (s : ℕ) → row.third ≡ s → fixed (latches_of (flattened (row ∷ rows)))
+        ≡ cond (is_fixed row) (1 + fixed (latches_of (flattened rows))) (fixed (latches_of (flattened rows)))
+    by_start zero e = rw e (omega arith)
+    by_start (suc zero) e = rw e (omega arith)
+    by_start (suc (suc r)) e = rw (e, lt-leb (suc (suc r)) 1 (omega arith))
 
-    pub twice_passed : length rest / 3 ≤ index (vars rest) (get_or rows i 0 / 2) → twice (vars (drop i rows)) ≡ twice (vars (drop (i + 3) rows))
-    twice_passed l = twice_next ∙ rw (le-ltb (index (vars rest) (get_or rows i 0 / 2)) (length rest / 3) l)
+fixed_none : fixed (latches_of (flattened [])) ≡ 0
+unfolding threes fixed
+fixed_none = refl
 
-    -- a test of each row
-    module _ (p : Gate → Bool) where
-      every_next : every p (gates_of (drop i rows)) ≡ (p gate_at && every p (gates_of (drop (i + 3) rows)))
-      unfolding every
-      every_next = rw (threes_next gate_of rows i h)
-
-      pub every_stops : p gate_at ≡ false → every p (gates_of (drop i rows)) ≡ false
-      every_stops e = every_next ∙ rw e
-
-      pub every_passes : p gate_at ≡ true → every p (gates_of (drop i rows)) ≡ every p (gates_of (drop (i + 3) rows))
-      every_passes e = every_next ∙ rw e
-
-  module _ (h : length rows ≤ i + 2) where
-    pub index_end : (v : ℕ) → index (vars (drop i rows)) v ≡ 0
-    unfolding index
-    index_end v = rw (threes_end (λ a b c. a / 2) rows i h)
-
-    pub twice_end : twice (vars (drop i rows)) ≡ false
-    unfolding twice
-    twice_end = rw (threes_end (λ a b c. a / 2) rows i h)
-
-    pub every_end : (p : Gate → Bool) → every p (gates_of (drop i rows)) ≡ true
-    unfolding every
-    every_end p = rw (threes_end gate_of rows i h)
+-- how many masks the list of start has
+pub fixed_many : (rows : List Row) → 4 * count_by is_fixed rows ≡ length (start_list (flattened rows))
+fixed_many rows =
+    let same = is_count_by (λ (ls : List Row). fixed (latches_of (flattened ls))) is_fixed fixed_none fixed_next rows in
+    omega (arith, same, starts_many (flattened rows))

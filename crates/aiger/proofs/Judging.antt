@@ -1,20 +1,16 @@
 -- What was read, judged: the rows are the circuit's variables in their order, so the tests that are made on rows are the circuit's, and the lists
 -- that are entered are its system's. Assumes nothing.
-use Prim.Native.Nat.{ℕ, zero, suc, ◌+◌, ◌-◌, ◌*◌, ◌≤◌}
+use Prim.Native.Nat.{ℕ, zero, suc, ◌+◌, ◌*◌, ◌≤◌}
 use mathlib.Core.Bool.{Bool, true, false, not, ◌&&◌, ◌||◌}
 use mathlib.Core.List.{List, ◌++◌, map, append_assoc}
-use mathlib.Core.Logic.{◌⊎◌, inl, inr, ⊎_elim}
 use mathlib.Core.Path.{◌≡◌, refl, sym, ap, ap₂, ◌∙◌}
-use native.Mathlib.Nat.{eq-zero-or-pos}
 use native.Mathlib.Omega.{arith}
-use borrow.Author.Tests.{ltb-false}
 use lib.Dec.{eqb, ltb}
 use lib.ListN.{length, take, drop, length-append, length-drop, take-append-drop}
 use lib.Seq.{length-take-le, take_at, drop_at, drop-drop}
 use Rattle.base.specs.Refusals.{◌if◌, ◌else◌, most_clauses}
 use Rattle.base.proofs.Refusals.{else_none, if_none}
 use Rattle.masks.proofs.Somewhere.{or_fails}
-use Rattle.stores.specs.Lists.{Lists}
 use Rattle.ic3.specs.Demands.{listed, Distinct}
 use Rattle.circuit.specs.Circuit.{Latch, Gate, latch_vars, outs, every}
 use Rattle.circuit.specs.Loops.{loop_free}
@@ -25,16 +21,14 @@ use Rattle.circuit.proofs.Sentences.{fixed_le}
 use Rattle.circuit.proofs.Main.{starting, stepping, watching, import_counts}
 use Rattle.circuit.proofs.Refusals.{twice_distinct}
 use Rattle.aiger.specs.Text.{firsts, vars, latches_of, gates_of, circuit_of}
-use Rattle.aiger.specs.Inner.{known_in, start_list, LoopFree, Sized, too_few, Held, circuit_in}
+use Rattle.aiger.specs.declared.table.Row.{Row}
+use Rattle.aiger.specs.Inner.{flattened, known_in, start_list, LoopFree, Sized, too_few, Held, circuit_in}
 use Rattle.aiger.specs.Inner.{wrong_rows, shared_count, short, last_refusal}
-use Rattle.aiger.specs.Promise.{Result, refused_at, line_for, imported_as}
-use Rattle.aiger.specs.declared.Imported.{Imported}
 use Rattle.aiger.specs.declared.read.Header.{Header}
 use Rattle.aiger.specs.declared.read.Reading.{Reading}
-use Rattle.aiger.proofs.Slices.{rest_slice}
-use Rattle.aiger.proofs.Threes.{threes_append, outs_rows, latches_rows, latches_many}
+use Rattle.aiger.proofs.Threes.{flat_length, flat_drop, flat_take, threes_append, outs_rows, latches_rows, latches_many}
 use Rattle.aiger.proofs.Entering.{starts_many}
-use Rattle.aiger.proofs.Heading.{header_tests, header_limits, counted_latches, counted_inputs, counted_gates, counted_singles, refused}
+use Rattle.aiger.proofs.Heading.{header_tests, header_limits, counted_latches, counted_inputs, counted_gates, counted_singles}
 use Rattle.aiger.proofs.Knowing.{starts_known, gates_known}
 
 -- ---- the last refusals
@@ -50,7 +44,7 @@ unfolding last_refusal
 last_by h latches a b d p q r = rw (p, q, r)
 
 -- ---- what is held
-module _ {text : List ℕ} {r : Reading} {rows : List ℕ} (h : Held text r rows) where
+module _ {text : List ℕ} {r : Reading} {rows : List Row} (h : Held text r rows) where
   abbrev H : Header
   H = r.header
 
@@ -67,17 +61,17 @@ module _ {text : List ℕ} {r : Reading} {rows : List ℕ} (h : Held text r rows
   held_gates = counted_gates h.counted
 
   -- the parts of the rows
-  pub latch_rows : take (3 * H.latches) rows ≡ h.latches
+  pub latch_rows : take (3 * H.latches) (flattened rows) ≡ h.latches
   latch_rows = rw h.content (take_at h.latches (h.inputs ++ h.gates) (3 * H.latches) h.counted.many_latches)
 
-  pub gate_rows : drop (3 * (H.latches + H.inputs)) rows ≡ h.gates
+  pub gate_rows : drop (3 * (H.latches + H.inputs)) (flattened rows) ≡ h.gates
   gate_rows =
       rw (h.content, ← append_assoc h.latches h.inputs h.gates)
       (drop_at (h.latches ++ h.inputs) h.gates (3 * (H.latches + H.inputs))
       (omega (arith, length-append h.latches h.inputs, h.counted.many_latches, h.counted.many_inputs)))
 
   -- the rows are all variables that are defined, in the order of their places
-  pub held_vars : vars rows ≡ defined (circuit_in h)
+  pub held_vars : vars (flattened rows) ≡ defined (circuit_in h)
   unfolding circuit_of
   held_vars =
       rw h.content
@@ -91,9 +85,10 @@ module _ {text : List ℕ} {r : Reading} {rows : List ℕ} (h : Held text r rows
       record {
         limits = header_limits H h.header;
         many =
-            ap length h.content
-            ∙ omega (
+            omega (
               arith,
+              flat_length rows,
+              ap length h.content,
               length-append h.latches (h.inputs ++ h.gates),
               length-append h.inputs h.gates,
               h.counted.many_latches,
@@ -129,7 +124,7 @@ module _ {text : List ℕ} {r : Reading} {rows : List ℕ} (h : Held text r rows
 
   -- ---- refusal 24
   pub held_24 : (twice (defined (circuit_in h)) || not (every (known (circuit_in h)) (used (circuit_in h))))
-      ≡ (wrong_rows rows H || not (every (known_in (vars rows)) literals))
+      ≡ (wrong_rows (flattened rows) H.latches (H.latches + H.inputs) || not (every (known_in (vars (flattened rows))) literals))
   unfolding wrong_rows known known_in circuit_of every
   held_24 =
       let vs = defined (circuit_in h) in
@@ -158,7 +153,7 @@ module _ {text : List ℕ} {r : Reading} {rows : List ℕ} (h : Held text r rows
 
   -- ---- the refusals from 24 on, as they are found
   pub held_refusal : circuit_refusal H.m (circuit_in h)
-      ≡ 24 if (wrong_rows rows H || not (every (known_in (vars rows)) literals))
+      ≡ 24 if (wrong_rows (flattened rows) H.latches (H.latches + H.inputs) || not (every (known_in (vars (flattened rows))) literals))
       else 25 if not (loop_free (gates_of h.gates))
       else 26 if eqb H.outputs 0 && eqb H.bads 0
   unfolding circuit_refusal nothing_watched too_few circuit_of
@@ -188,14 +183,14 @@ module _ {text : List ℕ} {r : Reading} {rows : List ℕ} (h : Held text r rows
 
   -- the refusal of the import
   pub held_number : (a b d : ℕ) → import_refusal H.m (circuit_in h) a b d
-      ≡ 24 if (wrong_rows rows H || not (every (known_in (vars rows)) literals))
+      ≡ 24 if (wrong_rows (flattened rows) H.latches (H.latches + H.inputs) || not (every (known_in (vars (flattened rows))) literals))
       else 25 if not (loop_free (gates_of h.gates))
       else last_refusal H h.latches a b d
   unfolding import_refusal last_refusal
   held_number a b d =
       first (circuit_refusal H.m (circuit_in h)) refl
       ∙ (ap (λ (x : ℕ). x else behind) held_refusal
-      ∙ last (wrong_rows rows H || not (every (known_in (vars rows)) literals)) (not (loop_free (gates_of h.gates)))
+      ∙ last (wrong_rows (flattened rows) H.latches (H.latches + H.inputs) || not (every (known_in (vars (flattened rows))) literals)) (not (loop_free (gates_of h.gates)))
       (eqb H.outputs 0 && eqb H.bads 0) _)
     where
       behind : ℕ
@@ -215,22 +210,22 @@ module _ {text : List ℕ} {r : Reading} {rows : List ℕ} (h : Held text r rows
   -- each number by the tests that were made
   module _ (a b d : ℕ) where
     abbrev K : Bool
-    K = every (known_in (vars rows)) literals
+    K = every (known_in (vars (flattened rows))) literals
 
     abbrev number : ℕ
     number = import_refusal H.m (circuit_in h) a b d
 
-    pub number_24 : (wrong_rows rows H || not K) ≡ true → number ≡ 24
+    pub number_24 : (wrong_rows (flattened rows) H.latches (H.latches + H.inputs) || not K) ≡ true → number ≡ 24
     number_24 e = held_number a b d ∙ rw e
 
-    module _ (e : (wrong_rows rows H || not K) ≡ false) where
+    module _ (e : (wrong_rows (flattened rows) H.latches (H.latches + H.inputs) || not K) ≡ false) where
       pub number_25 : loop_free (gates_of h.gates) ≡ false → number ≡ 25
       number_25 f = held_number a b d ∙ rw (e, f)
 
       pub number_last : loop_free (gates_of h.gates) ≡ true → number ≡ last_refusal H h.latches a b d
       number_last f = held_number a b d ∙ rw (e, f)
 
-  -- where none of the last is given: each store has room, and there are no more constraints than clauses
+  -- where none of the last is given: each store has room
   module _ (a b d : ℕ) (e : last_refusal H h.latches a b d ≡ 0) where
     last_tests : (short H (length (start_list h.latches)) a b d ≡ false) × (ltb most_clauses (2 * H.latches + shared_count H) ≡ false)
     unfolding last_refusal
@@ -242,54 +237,40 @@ module _ {text : List ℕ} {r : Reading} {rows : List ℕ} (h : Held text r rows
     pub last_room : short H (length (start_list h.latches)) a b d ≡ false
     last_room = last_tests.0
 
-    pub last_few : H.constraints ≤ 4096
-    last_few = omega (arith, ltb-false most_clauses (2 * H.latches + shared_count H) last_tests.1)
-
   -- a number that was found for the rows
-  module _ (a b d number : ℕ) (found : number ≡ last_refusal H (take (3 * H.latches) rows) a b d) where
+  module _ (a b d number : ℕ) (found : number ≡ last_refusal H (flattened (take H.latches rows)) a b d) where
     abbrev last : ℕ
     last = last_refusal H h.latches a b d
 
-    last_found : number ≡ last
-    last_found = found ∙ ap (λ (ls : List ℕ). last_refusal H ls a b d) latch_rows
+    pub last_found : number ≡ last
+    last_found = found ∙ ap (λ (ls : List ℕ). last_refusal H ls a b d) (flat_take H.latches rows ∙ latch_rows)
 
     pub last_none : number ≡ 0 → last ≡ 0
     last_none e = sym last_found ∙ e
 
-    -- the last refusals have no line, but for 26, which is the header's
-    other_line : (last ≡ 26 → ⊥) → line_for (circuit_in h) last ≡ 0
-    unfolding last_refusal line_for
-    other_line f =
+    -- the last refusals are none of a start value
+    pub last_other : number ≡ 28 → ⊥
+    unfolding last_refusal
+    last_other e =
         pick (eqb H.outputs 0 && eqb H.bads 0) (short H (length (start_list h.latches)) a b d)
-        (ltb most_clauses (2 * H.latches + shared_count H)) f
+        (ltb most_clauses (2 * H.latches + shared_count H)) (sym last_found ∙ e)
       where
-        pick : (x y z : Bool) → ((26 if x else 32 if y else 2 if z) ≡ 26 → ⊥) → line_for (circuit_in h) (26 if x else 32 if y else 2 if z) ≡ 0
-        pick true y z f = absurd (f refl)
-        pick false true z f = refl
-        pick false false true f = refl
-        pick false false false f = refl
-
-    last_line : (line : ℕ) → ((number ≡ 26) × (line ≡ 1)) ⊎ ((number ≡ 26 → ⊥) × (line ≡ 0)) → line_for (circuit_in h) number ≡ line
-    unfolding line_for
-    last_line line (inl w) = ap (line_for (circuit_in h)) w.0 ∙ sym w.1
-    last_line line (inr w) = ap (line_for (circuit_in h)) last_found ∙ (other_line (λ e. w.0 (last_found ∙ e)) ∙ sym w.1)
-
-    pub last_refused : (lent : Lists) {i : Imported} {line : ℕ} → import_refusal H.m (circuit_in h) a b d ≡ last → (number ≡ 0 → ⊥)
-        → ((number ≡ 26) × (line ≡ 1)) ⊎ ((number ≡ 26 → ⊥) × (line ≡ 0)) → i ≡ refused_at number line
-        → ◌≡◌ {A = Result} (record { import = i; after = lent }) (imported_as lent (circuit_in h) (import_refusal H.m (circuit_in h) a b d))
-    last_refused lent {line = line} e f w i =
-        refused lent (circuit_in h) (e ∙ sym last_found) (⊎_elim (λ z. absurd (f z)) (λ p. p) (eq-zero-or-pos number)) (last_line line w) i
+        pick : (x y z : Bool) → (26 if x else 32 if y else 2 if z) ≡ 28 → ⊥
+        pick true y z f = omega arith
+        pick false true z f = omega arith
+        pick false false true f = omega arith
+        pick false false false f = omega arith
 
   -- no gate's variable is defined twice where no row's is
-  pub held_loops : wrong_rows rows H ≡ false → (found : Bool)
-      → LoopFree (take (length rows - 3 * (H.latches + H.inputs)) (drop (3 * (H.latches + H.inputs)) rows)) found
+  pub held_loops : wrong_rows (flattened rows) H.latches (H.latches + H.inputs) ≡ false → (found : Bool)
+      → LoopFree (flattened (drop (H.latches + H.inputs) rows)) found
       → found ≡ loop_free (gates_of h.gates)
   unfolding wrong_rows circuit_of
   held_loops e found f =
-      let t = ((or_fails (twice (vars rows)) _).0 e).0 in
-      let d : Distinct (defined (circuit_in h)) = rw (← held_vars) ((twice_distinct (vars rows)).0 t) in
+      let t = ((or_fails (twice (vars (flattened rows))) _).0 e).0 in
+      let d : Distinct (defined (circuit_in h)) = rw (← held_vars) ((twice_distinct (vars (flattened rows))).0 t) in
       let g = distinct_right (c_inputs) (outs (circuit_in h).gates) (distinct_right (latch_vars (circuit_in h)) (wires (circuit_in h)) d) in
-      (rw (rest_slice (3 * (H.latches + H.inputs)) rows, gate_rows) at f) (rw (← outs_rows h.gates) g)
+      (rw (flat_drop (H.latches + H.inputs) rows, gate_rows) at f) (rw (← outs_rows h.gates) g)
     where
       c_inputs : List ℕ
       c_inputs = (circuit_in h).inputs

@@ -11,9 +11,11 @@ use Rattle.text.specs.Writing.{laid}
 use Rattle.circuit.specs.Circuit.{any}
 use Rattle.circuit.specs.Refusals.{wrong_start}
 use Rattle.aiger.specs.Text.{latches_of, Told}
-use Rattle.aiger.specs.Inner.{most_rows, Kept, too_few, header_refusal, Held}
+use Rattle.aiger.specs.Inner.{flattened, most_rows, Kept, too_few, header_refusal, Held}
+use Rattle.aiger.specs.declared.table.Row.{Row}
 use Rattle.aiger.specs.declared.read.Reading.{Reading}
 use Rattle.aiger.proofs.Heading.{header_limits}
+use Rattle.aiger.proofs.Threes.{flat_length, flat_take}
 
 -- ---- a list written over a front part, and behind one
 laid_behind : (p q w : List ℕ) (i : ℕ) → length p ≡ i → laid i w (p ++ q) ≡ p ++ laid 0 w q
@@ -61,9 +63,10 @@ module _ (a b c buffer : List ℕ) (fits : length a + length b + length c ≤ le
       ∙ append_assoc a b c)
 
 -- ---- what was kept
-unfoldable pub kept_held : (text : List ℕ) (what : Told) (before : List ℕ) (r : Reading) (after : List ℕ) → (k : Kept text what before r after)
-    → length before ≡ most_rows → too_few r.header ≡ false → any wrong_start (latches_of k.latches) ≡ false → header_refusal r.header ≡ 0
-    → Held text r (take (3 * (r.header.latches + r.header.inputs + r.header.gates)) after)
+unfoldable pub kept_held : (text : List ℕ) (what : Told) (before : List Row) (r : Reading) (after : List Row)
+    → (k : Kept text what (flattened before) r (flattened after)) → length before ≡ most_rows → too_few r.header ≡ false
+    → any wrong_start (latches_of k.latches) ≡ false → header_refusal r.header ≡ 0
+    → Held text r (take (r.header.latches + r.header.inputs + r.header.gates) after)
 kept_held text what before r after k e enough right f =
     let n = k.counted in
     let l = header_limits r.header f in
@@ -79,9 +82,10 @@ kept_held text what before r after k e enough right f =
       gates = k.gates;
       counted = n;
       content =
-          rw (k.content, j, i, m)
-          (third k.latches k.inputs k.gates before
-          (omega (arith, e, n.many_latches, n.many_inputs, n.many_gates, l.latches, l.wires)));
+          flat_take (r.header.latches + r.header.inputs + r.header.gates) after
+          ∙ rw (k.content, j, i, m)
+          (third k.latches k.inputs k.gates (flattened before)
+          (omega (arith, e, flat_length before, n.many_latches, n.many_inputs, n.many_gates, l.latches, l.wires)));
       enough = enough;
       right = right;
       header = f;

@@ -7,6 +7,7 @@ use native.Mathlib.Omega.{arith}
 use borrow.Author.Tests.{ltb-false, eq-eqb, ne_eqb}
 use lib.Dec.{eqb, ltb}
 use lib.ListN.{length, take, drop}
+use Rattle.std.specs.Prelude.{Ok}
 use Rattle.stores.specs.Over.{over}
 use Rattle.stores.specs.Lists.{Lists, lists, filled}
 use Rattle.masks.proofs.Somewhere.{or_fails}
@@ -16,9 +17,10 @@ use Rattle.circuit.specs.Import.{place_of, empty, marks, clause_of, latch_clause
 use Rattle.circuit.proofs.Sentences.{lengths}
 use Rattle.circuit.proofs.Main.{starting, stepping, watching}
 use Rattle.aiger.specs.Text.{firsts, latches_of, gates_of, circuit_of}
-use Rattle.aiger.specs.Promise.{Result, entered}
-use Rattle.aiger.specs.Inner.{Held, circuit_in, place_by, watched_of, constraints_of, Constraints, start_list, step_list, bad_list, short, Enters}
-use Rattle.aiger.specs.declared.again.Singles.{Singles}
+use Rattle.aiger.specs.Promise.{Result, Report, report_of, entered}
+use Rattle.aiger.specs.declared.table.Row.{Row}
+use Rattle.aiger.specs.declared.table.Singles.{Singles}
+use Rattle.aiger.specs.Inner.{flattened, Held, circuit_in, place_by, watched_of, constraints_of, Constraints, start_list, step_list, bad_list, short, Enters}
 use Rattle.aiger.specs.declared.Imported.{Imported}
 use Rattle.aiger.specs.declared.read.Header.{Header}
 use Rattle.aiger.specs.declared.read.Reading.{Reading}
@@ -27,30 +29,27 @@ use Rattle.aiger.proofs.Writing.{flat_append}
 use Rattle.aiger.proofs.Judging.{held_latches, held_inputs, held_gates, held_bads, held_vars, held_short, latch_rows, gate_rows}
 
 -- ---- an answer by its parts
-abbrev made : ℕ → ℕ → ℕ → ℕ → ℕ → ℕ → ℕ → Imported
-made number line n w start step bad =
-    record { number = number; line = line; n = n; w = w; start = start; step = step; bad = bad }
+abbrev made : ℕ → ℕ → ℕ → ℕ → ℕ → Report
+made n w start step bad = report_of (Ok (record { n = n; w = w; start = start; step = step; bad = bad }))
 
-same_made : {a b c d e f g a' b' c' d' e' f' g' : ℕ} → a ≡ a' → b ≡ b' → c ≡ c' → d ≡ d' → e ≡ e' → f ≡ f' → g ≡ g'
-    → made a b c d e f g ≡ made a' b' c' d' e' f' g'
-same_made p q r s t u v = rw (p, q, r, s, t, u, v)
+same_made : {c d e f g c' d' e' f' g' : ℕ} → c ≡ c' → d ≡ d' → e ≡ e' → f ≡ f' → g ≡ g' → made c d e f g ≡ made c' d' e' f' g'
+same_made r s t u v = rw (r, s, t, u, v)
 
 same_lists : {a b c a' b' c' : List ℕ} → a ≡ a' → b ≡ b' → c ≡ c' → lists a b c ≡ lists a' b' c'
 same_lists p q r = rw (p, q, r)
 
-by_parts : (q : Imported) {a b c d e f g : ℕ} → q.number ≡ a → q.line ≡ b → q.n ≡ c → q.w ≡ d → q.start ≡ e → q.step ≡ f → q.bad ≡ g
-    → q ≡ made a b c d e f g
-by_parts x p q r s t u v = same_made p q r s t u v
+by_parts : (q : Imported) {c d e f g : ℕ} → q.n ≡ c → q.w ≡ d → q.start ≡ e → q.step ≡ f → q.bad ≡ g → report_of (Ok q) ≡ made c d e f g
+by_parts x r s t u v = same_made r s t u v
 
 by_lists : (l : Lists) {a b c : List ℕ} → l.start ≡ a → l.step ≡ b → l.bad ≡ c → l ≡ lists a b c
 by_lists l p q r = same_lists p q r
 
-module _ {text : List ℕ} {r : Reading} {rows : List ℕ} (h : Held text r rows) where
+module _ {text : List ℕ} {r : Reading} {rows : List Row} (h : Held text r rows) where
   abbrev H : Header
   H = r.header
 
-  held_place : place_by rows H.latches ≡ place_of (circuit_in h)
-  held_place = place_by_lem (circuit_in h) rows H.latches (held_vars h) (held_latches h)
+  held_place : place_by (flattened rows) H.latches ≡ place_of (circuit_in h)
+  held_place = place_by_lem (circuit_in h) (flattened rows) H.latches (held_vars h) (held_latches h)
 
   abbrev literals : List ℕ
   literals = firsts h.singles
@@ -61,11 +60,11 @@ module _ {text : List ℕ} {r : Reading} {rows : List ℕ} (h : Held text r rows
   unfolding circuit_of
   shared_same = sym (flat_append (gate_clauses (place_of (circuit_in h)) (gates_of h.gates)) _)
 
-  start_same : start_list (take (3 * H.latches) rows) ≡ (imported (circuit_in h)).start
+  start_same : start_list (take (3 * H.latches) (flattened rows)) ≡ (imported (circuit_in h)).start
   unfolding start_list imported circuit_of
   start_same = rw (latch_rows h)
 
-  step_same : step_list rows (take (3 * H.latches) rows) (drop (3 * (H.latches + H.inputs)) rows) (constraints_of H literals)
+  step_same : step_list (flattened rows) (take (3 * H.latches) (flattened rows)) (drop (3 * (H.latches + H.inputs)) (flattened rows)) (constraints_of H literals)
       ≡ (imported (circuit_in h)).step
   unfolding step_list imported circuit_of
   step_same =
@@ -88,8 +87,8 @@ module _ {text : List ℕ} {r : Reading} {rows : List ℕ} (h : Held text r rows
       chosen [] all n o e = rw (eq-eqb n 0 (sym e))
       chosen (b ∷ bs) all n o e = rw (ne_eqb n 0 (λ z. omega arith))
 
-  bad_same : (clause : Clause) → clause ≡ marks (place_by rows H.latches) empty (watched_of H literals)
-      → bad_list rows H.latches (drop (3 * (H.latches + H.inputs)) rows) (constraints_of H literals) clause ≡ (imported (circuit_in h)).bad
+  bad_same : (clause : Clause) → clause ≡ marks (place_by (flattened rows) H.latches) empty (watched_of H literals)
+      → bad_list (flattened rows) H.latches (drop (3 * (H.latches + H.inputs)) (flattened rows)) (constraints_of H literals) clause ≡ (imported (circuit_in h)).bad
   unfolding bad_list imported circuit_of
   bad_same clause e =
       let one = flat (clause_of (place_of (circuit_in h)) (watched (circuit_in h)) ∷ []) in
@@ -116,9 +115,10 @@ module _ {text : List ℕ} {r : Reading} {rows : List ℕ} (h : Held text r rows
           omega (arith, (lengths c).2, ltb-false (length lent.bad) (4 * watching c) q.1),
         )
 
-    pub enters_system : (x : Singles) (clause : Clause) (q : Imported) (after : Lists) → Enters text x rows H clause lent q after
-        → clause ≡ marks (place_by rows H.latches) empty (watched_of H literals) → Constraints text x (constraints_of H literals)
-        → ◌≡◌ {A = Result} (record { import = q; after = after }) (entered (imported (circuit_in h)) lent)
+    pub enters_system : (x : Singles) (clause : Clause) (q : Imported) (after : Lists) → Enters x (flattened rows) H clause lent q after
+        → clause ≡ marks (place_by (flattened rows) H.latches) empty (watched_of H literals)
+        → Constraints x.text.now x.at x.count (constraints_of H literals)
+        → ◌≡◌ {A = Result} (record { import = report_of (Ok q); after = after }) (entered (imported (circuit_in h)) lent)
     unfolding entered filled imported
     enters_system x clause q after e o again =
         let y = imported (circuit_in h) in
@@ -127,8 +127,8 @@ module _ {text : List ℕ} {r : Reading} {rows : List ℕ} (h : Held text r rows
         let b = bad_same clause o in
         let step = e.step _ again in
         let bad = e.bad _ again in
-        ap₂ (λ (i : Imported) (l : Lists). record { import = i; after = l })
-        (by_parts q e.number.0 e.number.1 (e.sizes.0 ∙ sym (held_latches h))
+        ap₂ (λ (i : Report) (l : Lists). record { import = i; after = l })
+        (by_parts q (e.sizes.0 ∙ sym (held_latches h))
         (e.sizes.1 ∙ ap₂ (λ (x z : ℕ). x + z) (sym (held_inputs h)) (sym (held_gates h)))
         (e.start.end ∙ ap length s) (step.end ∙ ap length t) (bad.end ∙ ap length b))
         (by_lists after

@@ -14,20 +14,19 @@ use Rattle.circuit.specs.Circuit.{Circuit}
 use Rattle.circuit.specs.Import.{imported, import_refusal}
 use Rattle.circuit.proofs.Main.{import_right, import_paths}
 use Rattle.aiger.specs.Text.{first_edition, newer_edition, Told, malformed, told, tells}
-use Rattle.aiger.specs.Promise.{Result, entered, imported_as, result_of, system_in, Imports}
-use Rattle.aiger.specs.declared.Imported.{Imported}
+use Rattle.aiger.specs.Promise.{Result, Report, entered, imported_as, result_of, system_in, Imports}
 use Rattle.aiger.proofs.Cut.{line_most}
 use Rattle.aiger.proofs.First.{readers_agree}
 
 -- what was entered is read back
-pub entered_system : (c : Circuit) (lent : Lists) (i : Imported) (after : Lists)
+pub entered_system : (c : Circuit) (lent : Lists) (i : Report) (after : Lists)
     → ◌≡◌ {A = Result} (record { import = i; after = after }) (entered (imported c) lent) → system_in i after ≡ imported c
 unfolding entered filled
 entered_system c lent i after e =
     rw (ap (λ (x : Result). x.import) e, ap (λ (x : Result). x.after) e)
     (rw (over_front _ (imported c).start _ refl, over_front _ (imported c).step _ refl, over_front _ (imported c).bad _ refl))
 
-module _ (newer : Bool) (text : List ℕ) (lent : Lists) (i : Imported) (after : Lists)
+module _ (newer : Bool) (text : List ℕ) (lent : Lists) (i : Report) (after : Lists)
     (e : ◌≡◌ {A = Result} (record { import = i; after = after }) (result_of lent (tells newer text))) where
   abbrev number : ℕ → Circuit → ℕ
   number m c = import_refusal m c (length lent.start) (length lent.step) (length lent.bad)
@@ -54,7 +53,7 @@ module _ (newer : Bool) (text : List ℕ) (lent : Lists) (i : Imported) (after :
       }
 
 -- "The two readers agree on every text that the first accepts: system, counts, stores."
-pub readers_alike : (text : List ℕ) (lent : Lists) {i j : Imported} {a b : Lists} → Imports first_edition text lent i a
+pub readers_alike : (text : List ℕ) (lent : Lists) {i j : Report} {a b : Lists} → Imports first_edition text lent i a
     → Imports newer_edition text lent j b → i.number ≡ 0
     → ◌≡◌ {A = Result} (record { import = i; after = a }) (record { import = j; after = b })
 unfolding result_of listed

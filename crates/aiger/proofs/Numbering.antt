@@ -13,6 +13,9 @@ use borrow.Author.Tests.{lt-ltb, le-ltb, ltb-true, eq-eqb, ne_eqb, eqb-true, leb
 use lib.Dec.{eqb, ltb}
 use lib.ListN.{length, get_or, drop, set, length-append, length-drop, drop_of_length-le}
 use lib.Seq.{drop-cons}
+use Rattle.std.specs.Prelude as Std
+use Rattle.std.specs.Prelude.{None, Some}
+use Rattle.std.specs.Char.{is_ascii_digit}
 use Rattle.base.proofs.Tests.{test, both, eq_or_ne}
 use Rattle.text.specs.Writing.{Writes}
 use Rattle.text.proofs.Laying.{laid_one, writes_none, writes_then, writes_length}
@@ -23,6 +26,11 @@ use Rattle.aiger.specs.Inner.{Numbered}
 pub digit_least : (c : ℕ) → is_digit c ≡ true → 48 ≤ c
 unfolding is_digit
 digit_least c e = leb-true 48 c (both _ _ e).0
+
+-- the library's test
+pub digit_same : (c : ℕ) → is_ascii_digit c ≡ is_digit c
+unfolding is_digit
+digit_same c = refl
 
 -- ---- a byte and what follows it
 module _ (begun : Bool) (value c : ℕ) (cs : List ℕ) where
@@ -143,6 +151,11 @@ unfolding prepend
 prepend_last [] x o = refl
 prepend_last (y ∷ xs) x o = ap (ahead y) (prepend_last xs x o)
 
+-- ---- a number that may have begun
+abbrev pub has_begun : Std.Option ℕ → Bool
+has_begun None = false
+has_begun (Some value) = true
+
 -- ---- a walk over a line: the numbers in front of this index are in the store, and one may have begun
 pub record Walked (line before into : List ℕ) (count : ℕ) (begun : Bool) (value j : ℕ) : Type 0 where
   pub xs : List ℕ
@@ -152,8 +165,8 @@ pub record Walked (line before into : List ℕ) (count : ℕ) (begun : Bool) (va
   pub small : value < 2 ^ 32
 
 -- a line of other things
-numbered_none : {line before into : List ℕ} → length into ≡ length before → numbers line ≡ none → Numbered line before 0 into
-numbered_none same e = record { same = same; found = λ h. absurd (omega arith); lacks = λ r xs f. none_clash _ e f }
+numbered_none : {line before into : List ℕ} → length into ≡ length before → numbers line ≡ none → Numbered line before None into
+numbered_none same e = record { same = same; found = λ k h. cc; lacks = λ r xs f. none_clash _ e f }
 
 pub walked_first : (line before : List ℕ) → Walked line before before 0 false 0 0
 unfolding numbers prepend
@@ -164,10 +177,10 @@ module _ {line before into : List ℕ} {count : ℕ} {begun : Bool} {value j : �
   walked_length = writes_length w.writes
 
   -- where the rest has no numbers, the line has none
-  ended : numbers_from begun value (drop j line) ≡ none → Numbered line before 0 into
+  ended : numbers_from begun value (drop j line) ≡ none → Numbered line before None into
   ended e = numbered_none walked_length (w.says ∙ (ap (prepend w.xs) e ∙ prepend_none w.xs))
 
-  pub walked_past : length line ≤ j → Numbered line before 0 into
+  pub walked_past : length line ≤ j → Numbered line before None into
   unfolding numbers_from
   walked_past h = ended (rw (drop_of_length-le line h))
 
@@ -185,19 +198,19 @@ module _ {line before into : List ℕ} {count : ℕ} {begun : Bool} {value j : �
   walked_digit d l =
       record { xs = w.xs; says = w.says ∙ ap (prepend w.xs) (digit_at d); fits = w.fits; writes = w.writes; small = l }
 
-  pub walked_huge : is_digit (get_or line j 0) ≡ true → 2 ^ 32 ≤ 10 * value + (get_or line j 0 - 48) → Numbered line before 0 into
+  pub walked_huge : is_digit (get_or line j 0) ≡ true → 2 ^ 32 ≤ 10 * value + (get_or line j 0 - 48) → Numbered line before None into
   walked_huge d l = ended w (digit_at d ∙ from_huge true _ (drop (j + 1) line) l)
 
-  pub walked_early : is_digit (get_or line j 0) ≡ false → begun ≡ false → Numbered line before 0 into
+  pub walked_early : is_digit (get_or line j 0) ≡ false → begun ≡ false → Numbered line before None into
   walked_early d e = ended w (rw rest_at (from_early begun value _ _ d (rw e)))
 
   module _ (d : is_digit (get_or line j 0) ≡ false) (e : begun ≡ true) where
     -- a number ends here, and so the line has one more than the store
-    pub walked_full : count ≡ length into → Numbered line before 0 into
+    pub walked_full : count ≡ length into → Numbered line before None into
     walked_full full =
         record {
           same = walked_length w;
-          found = λ l. absurd (omega arith);
+          found = λ k l. cc;
           lacks = λ l xs f. more (numbers_from begun value (drop j line)) refl f;
         }
       where
@@ -226,24 +239,25 @@ module _ {line before into : List ℕ} {count : ℕ} {begun : Bool} {value j : �
             small = omega arith;
           }
 
-      pub walked_feed : get_or line j 0 ≡ 10 → j + 1 ≡ length line → Numbered line before (count + 1) (set into count value)
+      pub walked_feed : get_or line j 0 ≡ 10 → j + 1 ≡ length line → Numbered line before (Some (count + 1)) (set into count value)
       walked_feed b l =
           record {
             same = writes_length put_writes;
-            found = λ k.
+            found = λ k q.
+                let same : count + 1 ≡ k = cc in
                 record {
                   xs = w.xs ++ (value ∷ []);
                   says = w.says
                       ∙ (ap (prepend w.xs) (rw (rest_at, e) (from_feed value _ _ d w.small b (simp length-drop (omega arith))))
                       ∙ prepend_some w.xs _);
-                  count = omega (arith, put_writes.end);
-                  fits = fits_one;
+                  count = omega (arith, put_writes.end, same);
+                  fits = omega (arith, fits_one, same);
                   content = put_writes.content;
                 };
-            lacks = λ k. absurd (omega arith);
+            lacks = λ k. cc;
           }
 
-      pub walked_other : (get_or line j 0 ≡ 32 → ⊥) → (get_or line j 0 ≡ 10 → j + 1 ≡ length line → ⊥) → Numbered line before 0 (set into count value)
+      pub walked_other : (get_or line j 0 ≡ 32 → ⊥) → (get_or line j 0 ≡ 10 → j + 1 ≡ length line → ⊥) → Numbered line before None (set into count value)
       walked_other f g =
           numbered_none (writes_length put_writes)
           (w.says

@@ -1,6 +1,6 @@
 -- Where a variable stands, by the index of its row: a latch's position, a wire's behind the latches, or nowhere; and a literal of it in a clause.
 -- Assumes nothing.
-use Prim.Native.Nat.{ℕ, zero, suc, ◌+◌, ◌-◌, ◌/◌, ◌≤◌, ◌<◌}
+use Prim.Native.Nat.{ℕ, zero, suc, ◌+◌, ◌-◌, ◌≤◌, ◌<◌}
 use mathlib.Core.Bool.{true, false}
 use mathlib.Core.List.{List}
 use mathlib.Core.Path.{◌≡◌, refl, sym, ap, fun_ext, ◌∙◌}
@@ -8,19 +8,22 @@ use native.Mathlib.Omega.{arith}
 use borrow.Author.Tests.{ltb-true, ltb-false, lt-ltb, le-ltb}
 use lib.Dec.{ltb}
 use lib.ListN.{length, length-map}
+use Rattle.std.specs.Prelude.{Some, None}
+use Rattle.std.specs.List.{position}
 use Rattle.base.proofs.Tests.{test, clash}
 use Rattle.masks.proofs.Somewhere.{or_fails}
 use Rattle.ic3.specs.Demands.{listed}
 use Rattle.circuit.specs.Circuit.{Circuit, Latch, latch_vars, index}
 use Rattle.circuit.specs.Refusals.{wires, defined}
-use Rattle.circuit.specs.Import.{here, wire, nowhere, place_of, clause, with_place, mark}
+use Rattle.circuit.specs.Import.{Place, here, wire, nowhere, place_of, clause, with_place, mark}
 use Rattle.circuit.proofs.Lists.{index_lt, index_left, index_right, listed_append}
 use Rattle.circuit.proofs.Import.{place_cases}
 use Rattle.masks.specs.declared.Mask.{Mask}
 use Rattle.system.specs.declared.Clause.{Clause}
 use Rattle.aiger.specs.Text.{vars}
-use Rattle.aiger.specs.Inner.{place_at, place_in, place_by}
-use Rattle.aiger.proofs.Threes.{listed_rows}
+use Rattle.aiger.specs.Inner.{flattened, has_var, place_at, place_in, place_by}
+use Rattle.aiger.specs.declared.table.Row.{Row}
+use Rattle.aiger.proofs.Threes.{found_some, found_none}
 
 pub place_here : (latches k : ℕ) → k < latches → place_at latches k ≡ here k
 unfolding place_at
@@ -59,38 +62,44 @@ place_by_lem c rows latches e l =
     (λ q. rw (q, place_in) (place_found c v q))
     (λ q. rw (q, place_in) (sym (place_none c v q)))))
 
--- ---- a literal more in a clause, where k is the index that was found
-module _ (rows : List ℕ) (latches v k : ℕ) (found : k ≡ index (vars rows) v) where
-  row_place : k < length rows / 3 → place_by rows latches v ≡ place_at latches k
-  unfolding place_in
-  row_place l = rw (found) (rw (listed_rows rows v ∙ lt-ltb (index (vars rows) v) (length rows / 3) (rw (← found) l), place_in))
+-- ---- a literal more in a clause
+module _ (rows : List Row) (latches v : ℕ) (m : Clause) where
+  abbrev place : Place
+  place = place_by (flattened rows) latches v
 
-  row_none : length rows / 3 ≤ k → place_by rows latches v ≡ nowhere
-  unfolding place_in
-  row_none l = rw (listed_rows rows v ∙ le-ltb (index (vars rows) v) (length rows / 3) (rw (← found) l), place_in)
+  -- the variable has a row
+  module _ {k : ℕ} (found : position (has_var v) rows ≡ Some k) where
+    row_place : place ≡ place_at latches k
+    unfolding place_in
+    row_place = let f = found_some rows v k found in rw (f.0, ← f.1, place_in)
 
-  module _ (m : Clause) where
-    pub plain_row : (sign : ℕ) (ones : Mask) → sign ≡ 0 → k < length rows / 3 → ones ≡ with_place (place_at latches k) m.ones
-        → clause ones m.zeros ≡ mark (place_by rows latches v) sign m
+    pub plain_row : (sign : ℕ) (ones : Mask) → sign ≡ 0 → ones ≡ with_place (place_at latches k) m.ones
+        → clause ones m.zeros ≡ mark place sign m
     unfolding mark
-    plain_row sign ones e l o = rw (e, row_place l, o)
+    plain_row sign ones e o = rw (e, row_place, o)
 
-    pub inverted_row : (sign : ℕ) (zeros : Mask) → (sign ≡ 0 → ⊥) → k < length rows / 3 → zeros ≡ with_place (place_at latches k) m.zeros
-        → clause m.ones zeros ≡ mark (place_by rows latches v) sign m
+    pub inverted_row : (sign : ℕ) (zeros : Mask) → (sign ≡ 0 → ⊥) → zeros ≡ with_place (place_at latches k) m.zeros
+        → clause m.ones zeros ≡ mark place sign m
     unfolding mark
-    inverted_row zero zeros f l z = absurd (f refl)
-    inverted_row (suc r) zeros f l z =
-        rw (row_place l, z)
+    inverted_row zero zeros f z = absurd (f refl)
+    inverted_row (suc r) zeros f z =
+        rw (row_place, z)
         (test (ltb k latches)
         (λ e. rw (place_here latches k (ltb-true k latches e)))
         (λ e. rw (place_wire latches k (ltb-false k latches e))))
 
-    pub plain_none : (sign : ℕ) → sign ≡ 0 → length rows / 3 ≤ k → m ≡ mark (place_by rows latches v) sign m
-    unfolding mark with_place
-    plain_none sign e l = rw (e, row_none l)
+  -- it has none
+  module _ (none : position (has_var v) rows ≡ None) where
+    row_none : place ≡ nowhere
+    unfolding place_in
+    row_none = rw (found_none rows v none, place_in)
 
-    pub inverted_none : (sign : ℕ) (ones zeros : Mask) → (sign ≡ 0 → ⊥) → length rows / 3 ≤ k → ones ≡ with_place (here 0) m.ones
-        → zeros ≡ with_place (here 0) m.zeros → clause ones zeros ≡ mark (place_by rows latches v) sign m
+    pub plain_none : (sign : ℕ) → sign ≡ 0 → m ≡ mark place sign m
+    unfolding mark with_place
+    plain_none sign e = rw (e, row_none)
+
+    pub inverted_none : (sign : ℕ) (ones zeros : Mask) → (sign ≡ 0 → ⊥) → ones ≡ with_place (here 0) m.ones
+        → zeros ≡ with_place (here 0) m.zeros → clause ones zeros ≡ mark place sign m
     unfolding mark
-    inverted_none zero ones zeros f l o z = absurd (f refl)
-    inverted_none (suc r) ones zeros f l o z = rw (row_none l, o, z)
+    inverted_none zero ones zeros f o z = absurd (f refl)
+    inverted_none (suc r) ones zeros f o z = rw (row_none, o, z)

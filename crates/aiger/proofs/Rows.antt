@@ -7,19 +7,21 @@ use mathlib.Core.List.{List, [], ◌∷◌, ◌++◌, append_assoc}
 use mathlib.Core.Logic.{⊎_elim}
 use mathlib.Core.Option.{Option, none, some}
 use mathlib.Core.Path.{◌≡◌, refl, sym, ap, ◌∙◌}
-use native.Mathlib.Nat.{eq-zero-or-pos}
 use native.Mathlib.Omega.{arith}
 use borrow.Author.Tests.{eqb-true, eq-eqb, ne_eqb}
 use lib.Dec.{eqb, ltb, leb}
 use lib.ListN.{length, get_or, take, drop, replicate, length-replicate, drop_of_length-le, get_or-eq_default}
+use Rattle.std.specs.Prelude as Std
+use Rattle.std.specs.Prelude.{None, Some}
 use Rattle.base.proofs.Tests.{test, both, clash, lt_or_ge}
 use Rattle.text.specs.Lines.{lines, line_length}
 use Rattle.text.specs.Writing.{laid}
-use Rattle.text.proofs.Lines.{line_at, length_ended}
+use Rattle.text.proofs.Lines.{line_at, line_end, length_ended}
 use Rattle.circuit.specs.Circuit.{every}
 use Rattle.aiger.specs.Numbers.{numbers}
 use Rattle.aiger.specs.Text.{defining, fits, three, row_of, Part, broken, whole, with_row, part, threes}
-use Rattle.aiger.specs.Inner.{Found, Numbered, count_fits, RowFits, Low}
+use Rattle.aiger.specs.Inner.{Found, Numbered, row_list, Fine, count_fits, TakesLine, Low}
+use Rattle.aiger.specs.declared.part.Line.{Line}
 use Rattle.aiger.specs.declared.part.Form.{Form}
 use Rattle.aiger.proofs.Numbering.{none_clash, numbers_none}
 
@@ -68,29 +70,32 @@ count_least f count e =
     (λ q. omega (arith, eqb-true count f.width q))
     (λ q. omega (arith, eqb-true count (f.width + 1) (both f.starts (eqb count (f.width + 1)) (rw q at e)).1))
 
-module _ {form : Form} {count a b c : ℕ} (least : 1 ≤ form.width) (most : form.width ≤ 3) where
-  row_fits : {r : Bool} → r ≡ (count_fits form count && (starts form a && low form a b c)) → RowFits form count a b c r
+-- numbers of which there are so many, and three of them, are of the form or not
+pub record Fitting (form : Form) (count a b c : ℕ) (r : Bool) : Type 0 where
+  pub fits : (xs : List ℕ) → length xs ≡ count → count ≤ 3 → three xs ≡ a ∷ (b ∷ (c ∷ [])) → r ≡ fits form xs
+
+module _ {form : Form} {count a b c : ℕ} (fine : Fine form) where
+  row_fits : {r : Bool} → r ≡ (count_fits form count && (starts form a && low form a b c)) → Fitting form count a b c r
   unfolding fits count_fits
   row_fits {r} e =
       record {
-        some_number = λ t. omega (arith, least, count_least form count (both (count_fits form count) _ (sym e ∙ t)).0);
         fits = λ xs l h t.
             let p : get_or xs 0 0 ≡ a = cc in
             let q : get_or xs 1 0 ≡ b = cc in
             let s : get_or xs 2 0 ≡ c = cc in
             e ∙ test (count_fits form count)
-            (λ n. rw (l, take_small form.most form.width xs least most (omega (arith, count_least form count n)), p, q, s))
+            (λ n. rw (l, take_small form.most form.width xs fine.some_number fine.width (omega (arith, count_least form count n)), p, q, s))
             (λ n. rw (l, n));
       }
 
   -- the tests in the order of the code: how many there are, whether the first defines a variable, and the size of each
-  pub fits_other : count_fits form count ≡ false → RowFits form count a b c false
+  pub fits_other : count_fits form count ≡ false → Fitting form count a b c false
   fits_other f = row_fits (rw f)
 
-  pub fits_start : count_fits form count ≡ true → starts form a ≡ false → RowFits form count a b c false
+  pub fits_start : count_fits form count ≡ true → starts form a ≡ false → Fitting form count a b c false
   fits_start e f = row_fits (rw (e, f))
 
-  pub fits_low : {r : Bool} → count_fits form count ≡ true → starts form a ≡ true → r ≡ low form a b c → RowFits form count a b c r
+  pub fits_low : {r : Bool} → count_fits form count ≡ true → starts form a ≡ true → r ≡ low form a b c → Fitting form count a b c r
   fits_low e f g = row_fits (rw (e, f) g)
 
 pub odd_start : (a : ℕ) → (a % 2 ≡ 0 → ⊥) → defining a ≡ false
@@ -120,13 +125,6 @@ pub found_at : {line : List ℕ} (n : ℕ) {count : ℕ} {store : List ℕ} (g :
     → get_or store k 0 ≡ get_or g.xs k 0
 found_at n g k = ap (λ l. get_or l k 0) g.content ∙ laid_zeros n g.xs k (omega (arith, g.count, g.fits, length-replicate {A = ℕ} n 0))
 
--- what is laid behind a buffer changes nothing
-pub laid_beyond : (i : ℕ) (w buffer : List ℕ) → length buffer ≤ i → laid i w buffer ≡ buffer
-unfolding laid
-laid_beyond i w [] h = refl
-laid_beyond zero w (b ∷ buffer) h = absurd (omega arith)
-laid_beyond (suc i) w (b ∷ buffer) h = ap {B = List ℕ} (λ l. b ∷ l) (laid_beyond i w buffer (omega arith))
-
 -- ---- a line's row
 -- what a line without numbers, and one with numbers, has for a row
 pub row_none : (f : Form) (line : List ℕ) → numbers line ≡ none → row_of f line ≡ none
@@ -148,31 +146,40 @@ fits_more f xs h s l =
     rw (ne_eqb (length xs) f.width (omega arith))
     (test f.starts (λ e. rw (e, ne_eqb (length xs) (f.width + 1) (omega (arith, s e)))) (λ e. rw e))
 
--- what was read and tested tells the row of a line
-module _ {f : Form} {line row : List ℕ} {count : ℕ} {r : Bool} (n : Numbered line (replicate 3 0) count row)
-    (t : RowFits f count (get_or row 0 0) (get_or row 1 0) (get_or row 2 0) r) where
-  -- numbers were found: they stand there, and the test is that of the definition
-  found_row : (g : Found line (replicate 3 0) count row) → (three row ≡ three g.xs) × (r ≡ fits f g.xs)
-  found_row g =
-      let e : three row ≡ three g.xs = rw (found_at 3 g 0, found_at 3 g 1, found_at 3 g 2) in
-      (e, t.fits g.xs g.count (omega (arith, g.fits)) (sym e))
-
-  pub told_right : r ≡ true → row_of f line ≡ some (three row)
-  told_right e =
-      let g = n.found (t.some_number e) in
-      let h = found_row g in
-      row_right f line g.says (sym h.1 ∙ e) ∙ ap (λ l. some l) (sym h.0)
-
-  pub told_wrong : f.width ≤ 3 → (f.starts ≡ true → f.width ≤ 2) → r ≡ false → row_of f line ≡ none
-  told_wrong most more e =
-      ⊎_elim (λ z. by_numbers z (numbers line) refl)
-      (λ w.
-      let g = n.found w in
-      row_wrong f line g.says (sym (found_row g).1 ∙ e)) (eq-zero-or-pos count)
+-- a line that was read and tested
+module _ {f : Form} (fine : Fine f) (line : Line) where
+  pub takes_none : line.count ≡ None → TakesLine f line false
+  takes_none e =
+      record { right = λ t. clash t refl; wrong = λ t bytes found r n. by_numbers bytes n (numbers bytes) refl }
     where
-      by_numbers : count ≡ 0 → (o : Option (List ℕ)) → numbers line ≡ o → row_of f line ≡ none
-      by_numbers z none w = row_none f line w
-      by_numbers z (some xs) w = row_wrong f line w (fits_more f xs most more (omega (arith, n.lacks z xs w)))
+      by_numbers : (bytes : List ℕ) {found : List ℕ} → Numbered bytes (replicate 3 0) line.count found → (o : Option (List ℕ)) → numbers bytes ≡ o
+          → row_of f bytes ≡ none
+      by_numbers bytes n none w = row_none f bytes w
+      by_numbers bytes n (some xs) w = row_wrong f bytes w (fits_more f xs fine.width fine.start (omega (arith, n.lacks e xs w)))
+
+  module _ {count : ℕ} (e : line.count ≡ Some count) {r : Bool} (t : Fitting f count line.row.literal line.row.second line.row.third r) where
+    -- numbers were found: they stand there, and the test is that of the definition
+    found_row : (bytes found : List ℕ) → row_list line.row ≡ three found → (g : Found bytes (replicate 3 0) count found)
+        → (row_list line.row ≡ three g.xs) × (r ≡ fits f g.xs)
+    found_row bytes found same g =
+        let e : row_list line.row ≡ three g.xs = same ∙ rw (found_at 3 g 0, found_at 3 g 1, found_at 3 g 2) in
+        (e, t.fits g.xs g.count (omega (arith, g.fits)) (sym e))
+
+    pub takes_by : TakesLine f line r
+    takes_by =
+        record {
+          right = λ q bytes found same n.
+              let g = n.found count e in
+              let h = found_row bytes found same g in
+              row_right f bytes g.says (sym h.1 ∙ q) ∙ ap (λ l. some l) (sym h.0);
+          wrong = λ q bytes found same n.
+              let g = n.found count e in
+              row_wrong f bytes g.says (sym (found_row bytes found same g).1 ∙ q);
+        }
+
+-- a line that begins within the text ends there
+pub ends_within : (text : List ℕ) (at len : ℕ) → at ≤ length text → len ≡ line_length (drop at text) → at + len ≤ length text
+ends_within text at len h e = omega (arith, line_end text at (suc (length text)) (omega arith) (omega arith))
 
 -- ---- a part, line by line: what follows a row, or the line where none is
 abbrev pub behind_row : Option (List ℕ) → ℕ → Part → Part
@@ -226,14 +233,19 @@ row_shaped f line {row} e = by_numbers (numbers line) refl
 
 -- the code finds the row of a line that has one; where the first number defines a variable it is even
 pub row_found : (f : Form) (line : List ℕ) {row : List ℕ} → f.width ≤ 3 → (f.starts ≡ true → f.width ≤ 2) → row_of f line ≡ some row
-    → {r : ℕ} {after : List ℕ} → Numbered line (replicate 3 0) r after → (row ≡ three after) × (f.defines ≡ true → get_or row 0 0 % 2 ≡ 0)
+    → {r : Std.Option ℕ} {after : List ℕ} → Numbered line (replicate 3 0) r after → (row ≡ three after) × (f.defines ≡ true → get_or row 0 0 % 2 ≡ 0)
 unfolding fits count_fits defining
 row_found f line {row} most more e {r} {after} n = by_numbers (numbers line) refl
   where
+    counted : (o : Std.Option ℕ) → r ≡ o → (xs : List ℕ) → numbers line ≡ some xs → fits f xs ≡ true → (count : ℕ) × (r ≡ Some count)
+    counted None z xs q t = clash t (fits_more f xs most more (omega (arith, n.lacks z xs q)))
+    counted (Some k) z xs q t = (k, z)
+
     by_list : (xs : List ℕ) → numbers line ≡ some xs → fits f xs ≡ true → (row ≡ three after) × (f.defines ≡ true → get_or row 0 0 % 2 ≡ 0)
     by_list xs q t =
         let same : row ≡ three xs = cc (row_right f line q t) in
-        let g = n.found (⊎_elim (λ z. clash t (fits_more f xs most more (omega (arith, n.lacks z xs q)))) (λ w. w) (eq-zero-or-pos r)) in
+        let some_number = counted r refl xs q t in
+        let g = n.found some_number.0 some_number.1 in
         let found : g.xs ≡ xs = cc g.says in
         let at : (k : ℕ) → get_or after k 0 ≡ get_or xs k 0 = λ k. found_at 3 g k ∙ ap (λ l. get_or l k 0) found in (
           same ∙ rw (at 0, at 1, at 2),

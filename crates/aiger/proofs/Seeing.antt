@@ -10,6 +10,8 @@ use native.Mathlib.Omega.{arith}
 use lib.Dec.{eqb}
 use lib.ListN.{length, take, drop, length-append}
 use lib.Seq.{take_at, drop_at}
+use Rattle.std.specs.Prelude.{None, Some}
+use Rattle.text.specs.Lines.{lines}
 use Rattle.system.specs.declared.Clause.{Clause}
 use Rattle.circuit.specs.Circuit.{every}
 use Rattle.circuit.specs.Import.{empty, marks}
@@ -126,50 +128,89 @@ module _ (text : List ℕ) (h : Header) (at : ℕ) (singles : List ℕ) where
     literals_constraints = rw literals (drop_at (a ++ b) c (h.outputs + h.bads) (omega (arith, length-append a b, length_a, length_b)))
 
 -- ---- what was seen
-module _ (text rows : List ℕ) (latches : ℕ) (h : Header) (at : ℕ) (x y z : Watched)
-    (outputs : Watches text (record { at = at; count = h.outputs }) rows latches x)
-    (bads : Watches text (record { at = x.at; count = h.bads }) rows latches y)
-    (constraints : Watches text (record { at = y.at; count = h.constraints }) rows latches z) where
-  abbrev p : ℕ → Bool
-  p = known_in (vars rows)
-
+module _ (text rows : List ℕ) (latches : ℕ) (h : Header) (at : ℕ) where
   abbrev known : List ℕ → Bool
-  known = every p
+  known = every (known_in (vars rows))
 
   abbrev marked : List ℕ → Clause
   marked = marks (place_by rows latches) empty
 
-  -- which of two
-  chosen : (t : Bool) (p q : Clause) (u v : List ℕ) → p ≡ marked u → q ≡ marked v
-      → (elim t as (λ t. Clause) [ true ↦ p | false ↦ q ]) ≡ marked (elim t as (λ t. List ℕ) [ true ↦ u | false ↦ v ])
-  chosen true p q u v e f = e
-  chosen false p q u v e f = f
+  -- all are known if those of each piece are
+  known_pieces : (singles : List ℕ) (r : Pieces text h at singles) {a b c : Bool} → known (firsts r.outputs) ≡ a → known (firsts r.bads) ≡ b
+      → known (firsts r.constraints) ≡ c → known (firsts singles) ≡ (a && (b && c))
+  known_pieces singles r p q s =
+      ap known (literals text h at singles r)
+      ∙ (every_append (known_in (vars rows)) (firsts r.outputs ++ firsts r.bads) (firsts r.constraints)
+      ∙ (ap (λ (t : Bool). t && known (firsts r.constraints)) (every_append (known_in (vars rows)) (firsts r.outputs) (firsts r.bads))
+      ∙ (and_assoc (known (firsts r.outputs)) (known (firsts r.bads)) (known (firsts r.constraints)) ∙ rw (p, q, s))))
 
-  pub sees : (all : Bool) → all ≡ (x.known && (y.known && z.known)) → (clause : Clause)
-      → clause ≡ (elim (eqb h.bads 0) as (λ t. Clause) [ true ↦ x.clause | false ↦ y.clause ])
-      → Sees text h at rows latches (record { known = all; watched = clause; constraints = record { at = y.at; count = h.constraints } })
-  unfolding watched_of
-  sees all e clause f =
-      record {
-        within = bads.within;
-        count = refl;
-        says = λ singles w.
-            let r = pieces text h at singles w in
-            let o = outputs.says h r.outputs _ r.first in
-            let b = bads.says h r.bads _
-            (record { within = outputs.within; from = r.line_1; line = r.line_2; says = rw o.2 at r.second }) in
-            let again : Again text (uses h) y.at h.constraints r.constraints r.others =
-            record { within = bads.within; from = r.line_2; line = r.third.0; says = rw b.2 at r.third.1 } in
-            let c = constraints.says h r.constraints r.others again in (
-              e
-                  ∙ (rw (o.0, b.0, c.0) (sym (ap known (literals text h at singles r)
-                  ∙ (every_append p (firsts r.outputs ++ firsts r.bads) (firsts r.constraints)
-                  ∙ (ap (λ (t : Bool). t && known (firsts r.constraints)) (every_append p (firsts r.outputs) (firsts r.bads))
-                  ∙ and_assoc (known (firsts r.outputs)) (known (firsts r.bads)) (known (firsts r.constraints))))))),
-              f
-                  ∙ chosen (eqb h.bads 0) x.clause y.clause _ _
-                  (o.1 ∙ ap marked (sym (literals_outputs text h at singles r)))
-                  (b.1 ∙ ap marked (sym (literals_bads text h at singles r))),
-              record { header = h; rows = r.constraints; again = (r.others, again); literals_are = literals_constraints text h at singles r },
-            );
-      }
+  -- a run with one that is not known
+  unseen : ((singles : List ℕ) → ReadAgain text (uses h) at (singles_of h) singles → known (firsts singles) ≡ false)
+      → Sees text h at rows latches None
+  unseen f = record { within = λ q e. cc; unknown = λ e. f; says = λ q e. cc }
+
+  pub unseen_outputs : Watches text at h.outputs rows latches None → Sees text h at rows latches None
+  unseen_outputs o =
+      unseen (λ singles w.
+      let r = pieces text h at singles w in
+      known_pieces singles r (o.unknown refl h r.outputs _ r.first) refl refl)
+
+  module _ {x : Watched} (o : Watches text at h.outputs rows latches (Some x)) where
+    abbrev outputs_seen : {singles : List ℕ} (r : Pieces text h at singles)
+        → (known (firsts r.outputs) ≡ true) × (x.clause ≡ marked (firsts r.outputs)) × (r.after_outputs ≡ lines (drop x.at text))
+    outputs_seen r = o.says x refl h r.outputs _ r.first
+
+    bads_again : {singles : List ℕ} (r : Pieces text h at singles) → Again text (uses h) x.at h.bads r.bads r.after_bads
+    bads_again r = record { within = o.within x refl; from = r.line_1; line = r.line_2; says = rw (outputs_seen r).2 at r.second }
+
+    pub unseen_bads : Watches text x.at h.bads rows latches None → Sees text h at rows latches None
+    unseen_bads b =
+        unseen (λ singles w.
+        let r = pieces text h at singles w in
+        known_pieces singles r (outputs_seen r).0 (b.unknown refl h r.bads _ (bads_again r)) refl)
+
+    module _ {y : Watched} (b : Watches text x.at h.bads rows latches (Some y)) where
+      abbrev bads_seen : {singles : List ℕ} (r : Pieces text h at singles)
+          → (known (firsts r.bads) ≡ true) × (y.clause ≡ marked (firsts r.bads)) × (r.after_bads ≡ lines (drop y.at text))
+      bads_seen r = b.says y refl h r.bads _ (bads_again r)
+
+      constraints_again : {singles : List ℕ} (r : Pieces text h at singles) → Again text (uses h) y.at h.constraints r.constraints r.others
+      constraints_again r = record { within = b.within y refl; from = r.line_2; line = r.third.0; says = rw (bads_seen r).2 at r.third.1 }
+
+      pub unseen_constraints : Watches text y.at h.constraints rows latches None → Sees text h at rows latches None
+      unseen_constraints c =
+          unseen (λ singles w.
+          let r = pieces text h at singles w in
+          known_pieces singles r (outputs_seen r).0 (bads_seen r).0 (c.unknown refl h r.constraints _ (constraints_again r)))
+
+      -- which of two
+      chosen : (t : Bool) (p q : Clause) (u v : List ℕ) → p ≡ marked u → q ≡ marked v
+          → (elim t as (λ t. Clause) [ true ↦ p | false ↦ q ]) ≡ marked (elim t as (λ t. List ℕ) [ true ↦ u | false ↦ v ])
+      chosen true p q u v e f = e
+      chosen false p q u v e f = f
+
+      pub sees : {z : Watched} → Watches text y.at h.constraints rows latches (Some z) → (clause : Clause)
+          → clause ≡ (elim (eqb h.bads 0) as (λ t. Clause) [ true ↦ x.clause | false ↦ y.clause ])
+          → Sees text h at rows latches (Some (record { watched = clause; constraints = y.at }))
+      unfolding watched_of
+      sees {z} c clause f =
+          record {
+            within = λ q e. let same : record { watched = clause; constraints = y.at } ≡ q = cc in rw (← same) (b.within y refl);
+            unknown = λ e. cc;
+            says = λ q e singles w.
+                let same : record { watched = clause; constraints = y.at } ≡ q = cc in
+                let r = pieces text h at singles w in
+                rw (← same) (
+                  known_pieces singles r (outputs_seen r).0 (bads_seen r).0 (c.says z refl h r.constraints r.others (constraints_again r)).0,
+                  f
+                      ∙ chosen (eqb h.bads 0) x.clause y.clause _ _
+                      ((outputs_seen r).1 ∙ ap marked (sym (literals_outputs text h at singles r)))
+                      ((bads_seen r).1 ∙ ap marked (sym (literals_bads text h at singles r))),
+                  record {
+                    header = h;
+                    rows = r.constraints;
+                    again = (r.others, constraints_again r);
+                    literals_are = literals_constraints text h at singles r;
+                  },
+                );
+          }

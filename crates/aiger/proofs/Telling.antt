@@ -1,33 +1,37 @@
 -- What a text tells. A line begins with `aag` and a blank if each of its bytes is the one that stands there, and the header's counts are the numbers
 -- behind, 0 where they are absent. Then come the parts, and the first line at fault in any of them is the text's; where all four are whole, the rows
 -- were written one part at a time, but for those of one literal, which were written behind the store and so nowhere. Assumes nothing.
-use Prim.Native.Nat.{ℕ, zero, suc, ◌+◌, ◌-◌, ◌*◌, ◌^◌, ◌≤◌, ◌<◌}
+use Prim.Native.Nat.{ℕ, suc, ◌+◌, ◌*◌, ◌^◌, ◌≤◌, ◌<◌}
 use mathlib.Core.Bool.{Bool, true, ◌&&◌, and-false}
-use mathlib.Core.List.{List, [], ◌∷◌}
+use mathlib.Core.List.{List, [], ◌∷◌, ◌++◌}
 use mathlib.Core.Logic.{⊎_elim}
 use mathlib.Core.Option.{Option, none, some}
-use mathlib.Core.Path.{◌≡◌, refl, sym, ap, ◌∙◌}
-use native.Mathlib.Nat.{eq-zero-or-pos}
+use mathlib.Core.Path.{◌≡◌, refl, ap, subst, ◌∙◌}
+use native.Mathlib.Nat.{mul-add}
 use native.Mathlib.Omega.{arith}
 use borrow.Author.Tests.{eq-eqb, eqb-true, le-leb, lt-leb}
 use lib.Dec.{eqb, leb}
-use lib.ListN.{length, get_or, take, drop, replicate, length-drop, drop_of_length-le, length-replicate}
-use lib.Seq.{take_all, take-nil}
+use lib.ListN.{length, get_or, take, drop, replicate, drop_of_length-le, length-replicate}
+use lib.Seq.{take-nil}
+use Rattle.std.specs.Prelude.{Result, Ok, Err, Some, None}
+use Rattle.base.specs.Numbers.{number_of}
+use Rattle.base.specs.declared.Fault.{Fault}
+use Rattle.base.specs.declared.Refusal.TheVariants as refusal
 use Rattle.base.proofs.Tests.{test, both, clash, lt_or_ge}
 use Rattle.aiger.specs.Numbers.{numbers}
 use Rattle.text.specs.Lines.{lines, line_length}
 use Rattle.text.specs.Writing.{laid}
 use Rattle.text.proofs.Lines.{line_at, line_end}
-use Rattle.aiger.specs.Text.{Part, broken, whole, part, begins, magic, most_counts, header_by, header_from, header_of, Told, malformed, behind}
+use Rattle.aiger.specs.Text.{Part, broken, whole, begins, magic, most_counts, header_by, header_from, header_of, Told, malformed, behind}
 use Rattle.aiger.specs.Text.{defines, latch_form, uses, singles_of, parts_of, asks_justice, behind_header, lines_tell, tells}
-use Rattle.aiger.specs.Inner.{Numbered, Small, begun, fault_at, Takes, ReadAs}
-use Rattle.aiger.specs.declared.part.Form.{Form}
-use Rattle.aiger.specs.declared.part.Progress.{Progress}
+use Rattle.aiger.specs.declared.table.Row.{Row}
+use Rattle.aiger.proofs.Threes.{flat_length, laid_beyond}
+use Rattle.aiger.specs.Inner.{flattened, Numbered, Small, wrong_form, part_from, Read, Takes, Kept, ReadAs}
+use Rattle.aiger.specs.declared.part.Lines.{Lines}
 use Rattle.aiger.specs.declared.read.Header.{Header}
 use Rattle.aiger.specs.declared.read.Reading.{Reading}
 use Rattle.aiger.proofs.Numbering.{numbers_small}
-use Rattle.aiger.proofs.Rows.{found_at, laid_beyond}
-use Rattle.aiger.proofs.Parting.{Read, part_fault, part_length}
+use Rattle.aiger.proofs.Rows.{found_at, part_whole}
 
 -- ---- the bytes in front
 pub begins_length : (p l : List ℕ) → begins p l ≡ true → length p ≤ length l
@@ -36,36 +40,28 @@ begins_length [] l e = omega arith
 begins_length (x ∷ p) [] e = clash e refl
 begins_length (x ∷ p) (y ∷ l) e = omega (arith, begins_length p l (both (eqb x y) _ e).1)
 
-pub begins_at : (p l : List ℕ) → begins p l ≡ true → (k : ℕ) → k < length p → get_or l k 0 ≡ get_or p k 0
+begins_split : (p l : List ℕ) → begins p l ≡ true → l ≡ p ++ drop (length p) l
 unfolding begins
-begins_at [] l e k h = absurd (omega arith)
-begins_at (x ∷ p) [] e k h = clash e refl
-begins_at (x ∷ p) (y ∷ l) e zero h = sym (eqb-true x y (both (eqb x y) _ e).0)
-begins_at (x ∷ p) (y ∷ l) e (suc k) h = begins_at p l (both (eqb x y) _ e).1 k (omega arith)
+begins_split [] l e = refl
+begins_split (x ∷ p) [] e = clash e refl
+begins_split (x ∷ p) (y ∷ l) e =
+    let t = both (eqb x y) _ e in
+    let same : x ≡ y = eqb-true x y t.0 in
+    rw same (ap {B = List ℕ} (λ r. y ∷ r) (begins_split p l t.1))
 
-begins_of : (p l : List ℕ) → length p ≤ length l → ((k : ℕ) → k < length p → get_or l k 0 ≡ get_or p k 0) → begins p l ≡ true
+begins_front : (p rest : List ℕ) → begins p (p ++ rest) ≡ true
 unfolding begins
-begins_of [] l h f = refl
-begins_of (x ∷ p) [] h f = absurd (omega arith)
-begins_of (x ∷ p) (y ∷ l) h f =
-    rw (eq-eqb x y (sym (f zero (omega arith)))) (begins_of p l (omega arith) (λ k g. f (suc k) (omega arith)))
-
-pub begins_magic : (line : List ℕ) → 4 ≤ length line → get_or line 0 0 ≡ 97 → get_or line 1 0 ≡ 97 → get_or line 2 0 ≡ 103 → get_or line 3 0 ≡ 32
-    → begins magic line ≡ true
-begins_magic line h a b c d = begins_of magic line h each
-  where
-    each : (k : ℕ) → k < 4 → get_or line k 0 ≡ get_or magic k 0
-    each zero l = a
-    each (suc zero) l = b
-    each (suc (suc zero)) l = c
-    each (suc (suc (suc zero))) l = d
-    each (suc (suc (suc (suc k)))) l = absurd (omega arith)
+begins_front [] rest = refl
+begins_front (x ∷ p) rest = rw (eq-eqb x x refl) (begins_front p rest)
 
 -- ---- the counts
 module _ (newer : Bool) where
-  pub head_none : (line : List ℕ) → (begins magic line ≡ true → ⊥) → header_of newer line ≡ none
+  head_begins : (line : List ℕ) → (begins magic line ≡ true → ⊥) → header_of newer line ≡ none
   unfolding header_of
-  head_none line f = test (begins magic line) (λ b. absurd (f b)) (λ b. rw (header_of, b))
+  head_begins line f = test (begins magic line) (λ b. absurd (f b)) (λ b. rw (header_of, b))
+
+  pub head_none : (line : List ℕ) → ((rest : List ℕ) → line ≡ magic ++ rest → ⊥) → header_of newer line ≡ none
+  head_none line f = head_begins line (λ b. f (drop 4 line) (begins_split magic line b))
 
   from_few : (xs : List ℕ) → length xs < 5 → header_from newer xs ≡ none
   unfolding header_from
@@ -83,42 +79,37 @@ module _ (newer : Bool) where
   unfolding most_counts
   most_nine = test newer (λ e. rw (e, most_counts) (omega arith)) (λ e. rw (e, most_counts) (omega arith))
 
-  module _ (line : List ℕ) (b : begins magic line ≡ true) where
-    -- the bytes behind, as a part of the line
-    whole_behind : take (length line - 4) (drop 4 line) ≡ drop 4 line
-    whole_behind = take_all (length line - 4) (drop 4 line) (omega (arith, length-drop 4 line))
+  module _ (line behind : List ℕ) (same : line ≡ magic ++ behind) where
+    started : begins magic line ≡ true
+    started = rw same (begins_front magic behind)
 
-    head_lacks : numbers (take (length line - 4) (drop 4 line)) ≡ none → header_of newer line ≡ none
+    head_lacks : numbers behind ≡ none → header_of newer line ≡ none
     unfolding header_of
-    head_lacks e = rw (header_of, b, ap numbers (sym whole_behind) ∙ e)
+    head_lacks e = rw (header_of, started, ap (λ (l : List ℕ). numbers (drop 4 l)) same ∙ e)
 
-    head_has : {xs : List ℕ} → numbers (take (length line - 4) (drop 4 line)) ≡ some xs → header_of newer line ≡ header_from newer xs
+    head_has : {xs : List ℕ} → numbers behind ≡ some xs → header_of newer line ≡ header_from newer xs
     unfolding header_of
-    head_has e = rw (header_of, b, ap numbers (sym whole_behind) ∙ e)
+    head_has e = rw (header_of, started, ap (λ (l : List ℕ). numbers (drop 4 l)) same ∙ e)
 
-    module _ {count : ℕ} {counts : List ℕ} (n : Numbered (take (length line - 4) (drop 4 line)) (replicate 9 0) count counts) where
-      -- no number at all, or more than nine, or as many as were found
+    -- no number at all, or more than nine
+    pub head_other : {counts : List ℕ} → Numbered behind (replicate 9 0) None counts → header_of newer line ≡ none
+    head_other n = by_numbers _ refl
+      where
+        by_numbers : (o : Option (List ℕ)) → numbers behind ≡ o → header_of newer line ≡ none
+        by_numbers none e = head_lacks e
+        by_numbers (some xs) e =
+            head_has e ∙ from_many xs (omega (arith, most_nine, n.lacks refl xs e, length-replicate {A = ℕ} 9 0))
+
+    module _ {count : ℕ} {counts : List ℕ} (n : Numbered behind (replicate 9 0) (Some count) counts) where
       pub head_few : count < 5 → header_of newer line ≡ none
-      head_few f = by_numbers _ refl
-        where
-          by_numbers : (o : Option (List ℕ)) → numbers (take (length line - 4) (drop 4 line)) ≡ o → header_of newer line ≡ none
-          by_numbers none e = head_lacks e
-          by_numbers (some xs) e =
-              head_has e
-              ∙ ⊎_elim (λ z. from_many xs (omega (arith, most_nine, n.lacks z xs e, length-replicate {A = ℕ} 9 0)))
-              (λ w.
-              let g = n.found w in
-              let same : g.xs ≡ xs = cc g.says in
-              from_few xs (omega (arith, g.count, ap length same))) (eq-zero-or-pos count)
+      head_few f = let g = n.found count refl in head_has g.says ∙ from_few g.xs (omega (arith, g.count))
 
       pub head_many : most_counts newer < count → header_of newer line ≡ none
-      head_many f =
-          let g = n.found (omega arith) in
-          head_has g.says ∙ from_many g.xs (omega (arith, g.count))
+      head_many f = let g = n.found count refl in head_has g.says ∙ from_many g.xs (omega (arith, g.count))
 
       pub head_right : 5 ≤ count → count ≤ most_counts newer → (header_of newer line ≡ some (header_by newer counts)) × Small (header_by newer counts)
       head_right f l =
-          let g = n.found (omega arith) in
+          let g = n.found count refl in
           let at : (k : ℕ) → get_or counts k 0 ≡ get_or g.xs k 0 = λ k. found_at 9 g k in
           let small : (k : ℕ) → get_or counts k 0 < 2 ^ 32 = λ k. rw (at k) (numbers_small _ g.says k) in (
             head_has g.says
@@ -146,96 +137,128 @@ unfolding behind
 behind_whole next e = ap (λ p. behind p next) e
 
 -- what is wrong with the form
-read_fault : {text : List ℕ} {what : Told} {before : List ℕ} {h : Header} {number k : ℕ} {r : Reading} {after : List ℕ} → r ≡ fault_at h number k
-    → 1 ≤ number → what ≡ malformed number k → length after ≡ length before → ReadAs text what before r after
-read_fault e least says same =
-    rw e (record { same = same; wrong = λ f. says; right = λ z. absurd (omega arith) })
+read_fault : {text : List ℕ} {what : Told} {before : List Row} {f : Fault} {after : List Row} → what ≡ malformed (number_of f.refusal) f.line
+    → length after ≡ length before → ReadAs text what before (Err f) after
+read_fault {what = what} {f = f} says same =
+    record {
+      same = same;
+      wrong = λ g e. let q : f ≡ g = cc in subst (λ (x : Fault). what ≡ malformed (number_of x.refusal) x.line) q says;
+      right = λ q e. cc;
+    }
 
--- the part that was taken has a line at fault, and so has the text
-module _ {text : List ℕ} {form : Form} {count line at row : ℕ} {before : List ℕ} {q : Progress} {after : List ℕ}
-    (t : Takes text (begun form count line at row) before q after) (e : q.fault ≡ true) where
-  faulty_part : {what : Told} {first : List ℕ} {h : Header} {r : Reading} → length before ≡ length first
-      → (part form count line (lines (drop at text)) ≡ broken q.line → what ≡ malformed 20 q.line) → r ≡ fault_at h 20 q.line
-      → ReadAs text what first r after
-  faulty_part same says f = read_fault f (omega arith) (says (part_fault t e)) (part_length t ∙ same)
+-- what was kept
+read_kept : {text : List ℕ} {what : Told} {before : List Row} {q : Reading} {after : List Row}
+    → Kept text what (flattened before) q (flattened after)
+    → length after ≡ length before → ReadAs text what before (Ok q) after
+read_kept {text} {what} {before} {q} {after} kept same =
+    record {
+      same = same;
+      wrong = λ f e. cc;
+      right = λ r e. let f : q ≡ r = cc in subst (λ (x : Reading). Kept text what (flattened before) x (flattened after)) f kept;
+    }
 
-module _ (text : List ℕ) (h : Header) (at : ℕ) (before : List ℕ) where
-  pub fault_inputs : {q : Progress} {b : List ℕ} {r : Reading} → Takes text (begun (defines h 1) h.inputs 2 at (3 * h.latches)) before q b
-      → q.fault ≡ true → r ≡ fault_at h 20 q.line → ReadAs text (parts_of h (lines (drop at text))) before r b
+-- a part has a line at fault, and so has the text
+fault_part : {text : List ℕ} {l : Lines} {from : ℕ} {before : List Row} {f : Fault} {after : List Row} (t : Takes text l from before (Err f) after)
+    → {what : Told} {first : List Row} → length before ≡ length first
+    → ((k : ℕ) → part_from text l from ≡ broken k → what ≡ malformed 20 k) → ReadAs text what first (Err f) after
+fault_part {f = f} t same says =
+    let w = t.wrong f refl in
+    read_fault (rw w.0 (says f.line w.1)) (t.same ∙ same)
+
+module _ (text : List ℕ) (h : Header) (at : ℕ) (before : List Row) where
+  abbrev pub inputs_lines : Lines
+  inputs_lines = record { form = defines h 1; count = h.inputs; first = 2; row = h.latches }
+
+  abbrev pub latches_lines : Lines
+  latches_lines = record { form = latch_form h; count = h.latches; first = 2 + h.inputs; row = 0 }
+
+  abbrev pub singles_lines : ℕ → Lines
+  singles_lines row = record { form = uses h; count = singles_of h; first = 2 + h.inputs + h.latches; row = row }
+
+  abbrev pub gates_lines : Lines
+  gates_lines =
+      record { form = defines h 3; count = h.gates; first = 2 + h.inputs + h.latches + singles_of h; row = h.latches + h.inputs }
+
+  pub fault_inputs : {b : List Row} {f : Fault} → Takes text inputs_lines at before (Err f) b → ReadAs text (parts_of h (lines (drop at text))) before (Err f) b
   unfolding parts_of
-  fault_inputs t e f = faulty_part t e refl (λ w. behind_broken _ w) f
+  fault_inputs t = fault_part t refl (λ k w. behind_broken _ w)
 
-  module _ {q : Progress} {b : List ℕ} (inputs : Read text (defines h 1) h.inputs 2 at (3 * h.latches) before q b) where
-    pub fault_latches : {q' : Progress} {b' : List ℕ} {r : Reading} → Takes text (begun (latch_form h) h.latches q.line q.at 0) b q' b'
-        → q'.fault ≡ true → r ≡ fault_at h 20 q'.line → ReadAs text (parts_of h (lines (drop at text))) before r b'
+  module _ {i : ℕ} {b : List Row} (inputs : Takes text inputs_lines at before (Ok i) b) where
+    abbrev first_read : Read text inputs_lines at before i b
+    first_read = inputs.right i refl
+
+    pub fault_latches : {b' : List Row} {f : Fault} → Takes text latches_lines i b (Err f) b'
+        → ReadAs text (parts_of h (lines (drop at text))) before (Err f) b'
     unfolding parts_of
-    fault_latches t e f = faulty_part t e inputs.same (λ w. behind_whole _ inputs.says ∙ behind_broken _ w) f
+    fault_latches t = fault_part t inputs.same (λ k w. behind_whole _ first_read.says ∙ behind_broken _ w)
 
-    module _ {q' : Progress} {b' : List ℕ} (latches : Read text (latch_form h) h.latches q.line q.at 0 b q' b') where
-      pub fault_singles : {row : ℕ} {p : Progress} {d : List ℕ} {r : Reading}
-          → Takes text (begun (uses h) (singles_of h) q'.line q'.at row) b' p d
-          → p.fault ≡ true → r ≡ fault_at h 20 p.line → ReadAs text (parts_of h (lines (drop at text))) before r d
+    module _ {j : ℕ} {b' : List Row} (latches : Takes text latches_lines i b (Ok j) b') where
+      abbrev second_read : Read text latches_lines i b j b'
+      second_read = latches.right j refl
+
+      pub fault_singles : {row : ℕ} {d : List Row} {f : Fault} → Takes text (singles_lines row) j b' (Err f) d
+          → ReadAs text (parts_of h (lines (drop at text))) before (Err f) d
       unfolding parts_of
-      fault_singles t e f =
-          faulty_part t e (latches.same ∙ inputs.same)
-          (λ w. behind_whole _ inputs.says ∙ (behind_whole _ latches.says ∙ behind_broken _ w)) f
+      fault_singles t =
+          fault_part t (latches.same ∙ inputs.same)
+          (λ k w. behind_whole _ first_read.says ∙ (behind_whole _ second_read.says ∙ behind_broken _ w))
 
-      module _ {row : ℕ} {p : Progress} {d : List ℕ} (singles : Read text (uses h) (singles_of h) q'.line q'.at row b' p d) where
-        pub fault_gates : {p' : Progress} {d' : List ℕ} {r : Reading}
-            → Takes text (begun (defines h 3) h.gates p.line p.at (3 * h.latches + 3 * h.inputs)) d p' d' → p'.fault ≡ true
-            → r ≡ fault_at h 20 p'.line → ReadAs text (parts_of h (lines (drop at text))) before r d'
+      module _ {row k : ℕ} {d : List Row} (singles : Takes text (singles_lines row) j b' (Ok k) d) where
+        abbrev third_read : Read text (singles_lines row) j b' k d
+        third_read = singles.right k refl
+
+        pub fault_gates : {d' : List Row} {f : Fault} → Takes text gates_lines k d (Err f) d'
+            → ReadAs text (parts_of h (lines (drop at text))) before (Err f) d'
         unfolding parts_of
-        fault_gates t e f =
-            faulty_part t e (singles.same ∙ (latches.same ∙ inputs.same))
-            (λ w.
-            behind_whole _ inputs.says ∙ (behind_whole _ latches.says ∙ (behind_whole _ singles.says ∙ behind_broken _ w))) f
+        fault_gates t =
+            fault_part t (singles.same ∙ (latches.same ∙ inputs.same))
+            (λ m w.
+            behind_whole _ first_read.says
+            ∙ (behind_whole _ second_read.says ∙ (behind_whole _ third_read.says ∙ behind_broken _ w)))
 
         -- all four are whole; those of one literal were written behind the store
-        pub parts_right : {p' : Progress} {d' : List ℕ} → at ≤ length text → Small h → length b' ≤ row
-            → Read text (defines h 3) h.gates p.line p.at (3 * h.latches + 3 * h.inputs) d p' d'
-            → ReadAs text (parts_of h (lines (drop at text))) before
-            (record { number = 0; line = 0; header = h; latches = q.at; singles = q'.at }) d'
+        pub parts_right : {m : ℕ} {d' : List Row} → Small h → length b' ≤ row → Takes text gates_lines k d (Ok m) d'
+            → ReadAs text (parts_of h (lines (drop at text))) before (Ok (record { header = h; latches = i; singles = j })) d'
         unfolding parts_of
-        parts_right first small beyond gates =
-            record {
-              same = gates.same ∙ (singles.same ∙ (latches.same ∙ inputs.same));
-              wrong = λ f. absurd (f refl);
-              right = λ z.
-                  record {
-                    inputs = inputs.rows;
-                    latches = latches.rows;
-                    singles = singles.rows;
-                    gates = gates.rows;
-                    says = behind_whole _ inputs.says
-                        ∙ (behind_whole _ latches.says ∙ (behind_whole _ singles.says ∙ behind_whole _ gates.says));
-                    counted = record {
-                      small = small;
-                      many_inputs = inputs.shape.many;
-                      many_latches = latches.shape.many;
-                      many_singles = singles.shape.many;
-                      many_gates = gates.shape.many;
-                      latches_again = (_, record { within = inputs.within; from = _; line = _; says = latches.says });
-                      singles_again = (_, record { within = latches.within; from = _; line = _; says = singles.says });
-                    };
-                    content = gates.content
-                        ∙ ap (laid (3 * h.latches + 3 * h.inputs) gates.rows)
-                        (singles.content
-                        ∙ (laid_beyond row singles.rows b' beyond ∙ (latches.content ∙ ap (laid 0 latches.rows) inputs.content)));
-                  };
-            }
+        parts_right {m} small beyond gates =
+            let last = gates.right m refl in
+            read_kept (record {
+              inputs = first_read.rows;
+              latches = second_read.rows;
+              singles = third_read.rows;
+              gates = last.rows;
+              says = behind_whole _ first_read.says
+                  ∙ (behind_whole _ second_read.says ∙ (behind_whole _ third_read.says ∙ behind_whole _ last.says));
+              counted = record {
+                small = small;
+                many_inputs = (part_whole _ _ _ _ first_read.says).many;
+                many_latches = (part_whole _ _ _ _ second_read.says).many;
+                many_singles = (part_whole _ _ _ _ third_read.says).many;
+                many_gates = (part_whole _ _ _ _ last.says).many;
+                latches_again = (_, record { within = first_read.within; from = _; line = _; says = second_read.says });
+                singles_again = (_, record { within = second_read.within; from = _; line = _; says = third_read.says });
+              };
+              content = last.content
+                  ∙ (ap (λ (i : ℕ). laid i last.rows (flattened d)) (mul-add 3 h.latches h.inputs)
+                  ∙ ap (laid (3 * h.latches + 3 * h.inputs) last.rows)
+                  (third_read.content
+                  ∙ (laid_beyond (3 * row) third_read.rows (flattened b') (omega (arith, beyond, flat_length b'))
+                  ∙ (second_read.content ∙ ap (laid 0 second_read.rows) first_read.content))));
+            })
+            (gates.same ∙ (singles.same ∙ (latches.same ∙ inputs.same)))
 
 -- a header that asks for more than safety
 module _ (text : List ℕ) (h : Header) (ls : List (List ℕ)) where
-  pub read_justice : {before : List ℕ} {r : Reading} → ((h.justice ≡ 0) × (h.fairness ≡ 0) → ⊥) → r ≡ fault_at h 27 1
-      → ReadAs text (behind_header h ls) before r before
+  pub read_justice : {before : List Row} → ((h.justice ≡ 0) × (h.fairness ≡ 0) → ⊥)
+      → ReadAs text (behind_header h ls) before (Err (record { refusal = refusal.Justice; line = 1 })) before
   unfolding behind_header asks_justice
-  read_justice f e =
-      read_fault e (omega arith)
+  read_justice f =
+      read_fault
       (test (eqb h.justice 0 && eqb h.fairness 0)
       (λ b. let p = both _ _ b in absurd (f (eqb-true h.justice 0 p.0, eqb-true h.fairness 0 p.1)))
       (λ b. rw (b, behind_header))) refl
 
-  pub read_safety : {before : List ℕ} {r : Reading} {after : List ℕ} → h.justice ≡ 0 → h.fairness ≡ 0
+  pub read_safety : {before : List Row} {r : Result Reading Fault} {after : List Row} → h.justice ≡ 0 → h.fairness ≡ 0
       → ReadAs text (parts_of h ls) before r after → ReadAs text (behind_header h ls) before r after
   unfolding behind_header asks_justice
   read_safety e f t = rw (eq-eqb h.justice 0 e, eq-eqb h.fairness 0 f, behind_header) t
@@ -269,17 +292,17 @@ module _ (newer : Bool) where
         rw (w.first, s, e) (tells_line _ _))
         (λ l.
         let none : text ≡ [] = drop_of_length-le text {i = 0} l in
-        rw (none, take-nil end, head_none newer [] (λ b. omega (arith, begins_length magic [] b))) tells_empty)
+        rw (none, take-nil end, head_begins newer [] (λ b. omega (arith, begins_length magic [] b))) tells_empty)
         (lt_or_ge 0 (length text))
 
     -- the parts are read behind a header, and nothing is read behind any other line
-    pub read_header : {h : Header} {before : List ℕ} {r : Reading} {after : List ℕ} → header_of newer (take end text) ≡ some h
+    pub read_header : {h : Header} {before : List Row} {r : Result Reading Fault} {after : List Row} → header_of newer (take end text) ≡ some h
         → ReadAs text (behind_header h (lines (drop end text))) before r after → ReadAs text (tells newer text) before r after
     read_header f t = rw (tells_first ∙ ap (λ o. behind_head o (lines (drop end text))) f) t
 
-    pub read_other : {h : Header} {before : List ℕ} {r : Reading} → header_of newer (take end text) ≡ none → r ≡ fault_at h 20 1
-        → ReadAs text (tells newer text) before r before
-    read_other f g = read_fault g (omega arith) (tells_first ∙ ap (λ o. behind_head o (lines (drop end text))) f) refl
+    pub read_other : {before : List Row} {f : Fault} → header_of newer (take end text) ≡ none → f ≡ wrong_form 1
+        → ReadAs text (tells newer text) before (Err f) before
+    read_other e f = rw f (read_fault {f = wrong_form 1} (tells_first ∙ ap (λ o. behind_head o (lines (drop end text))) e) refl)
 
 pub first_within : (text : List ℕ) (end : ℕ) → end ≡ line_length (drop 0 text) → end ≤ length text
 first_within text end e = omega (arith, line_end text 0 (suc (length text)) (omega arith) (omega arith))

@@ -15,7 +15,8 @@ use Rattle.system.specs.declared.Clause.{Clause}
 use Rattle.circuit.specs.Circuit.{Latch, first}
 use Rattle.circuit.specs.Import.{Place, here, clause, with_place, flip, marks, empty, mark, start_clauses, latch_clauses, gate_clauses, flat}
 use Rattle.aiger.specs.Text.{latches_of, gates_of}
-use Rattle.aiger.specs.Inner.{starting_at, latch_of, gate_of}
+use Rattle.aiger.specs.Inner.{no_row, flattened, starting_at, latch_of, gate_of}
+use Rattle.aiger.specs.declared.table.Row.{Row}
 use Rattle.aiger.proofs.Threes.{threes_next}
 
 -- of the masks `all`, all but `rest` were written from index `from` on, and end at index `at`
@@ -90,10 +91,10 @@ start_first k var next zero ls = refl
 start_first k var next (suc zero) ls = refl
 start_first k var next (suc (suc r)) ls = refl
 
-pub start_next : (latches : List ℕ) (i k : ℕ) → i + 2 < length latches
-    → flat (start_clauses k (latches_of (drop i latches)))
-    ≡ flat (start_clauses k (starting_at (get_or latches (i + 2) 0) ∷ [])) ++ flat (start_clauses (k + 1) (latches_of (drop (i + 3) latches)))
-start_next latches i k h = rw (threes_next _ latches i h, add-one k) (ap flat (start_first k _ _ _ _) ∙ flat_append _ _)
+pub start_next : (latches : List Row) (k : ℕ) → k < length latches
+    → flat (start_clauses k (latches_of (flattened (drop k latches))))
+    ≡ flat (start_clauses k (starting_at (get_or latches k no_row).third ∷ [])) ++ flat (start_clauses (k + 1) (latches_of (flattened (drop (k + 1) latches))))
+start_next latches k h = rw (threes_next _ latches k h, add-one k) (ap flat (start_first k _ _ _ _) ∙ flat_append _ _)
 
 -- ---- an inverted literal: the same variable, the other sign
 sign_or : (l : ℕ) → (l % 2 ≡ 0) ⊎ (l % 2 ≡ 1)
@@ -133,11 +134,12 @@ module _ (place : ℕ → Place) where
   latch_end k next w = w.end
 
   -- in front of those of the other latches
-  pub latch_next : (latches : List ℕ) (i k : ℕ) → i + 2 < length latches
-      → flat (latch_clauses place k (latches_of (drop i latches)))
-      ≡ flat (latch_clauses place k (latch_of (get_or latches (i + 1) 0) ∷ [])) ++ flat (latch_clauses place (k + 1) (latches_of (drop (i + 3) latches)))
+  pub latch_next : (latches : List Row) (k : ℕ) → k < length latches
+      → flat (latch_clauses place k (latches_of (flattened (drop k latches))))
+      ≡ flat (latch_clauses place k (latch_of (get_or latches k no_row).second ∷ []))
+      ++ flat (latch_clauses place (k + 1) (latches_of (flattened (drop (k + 1) latches))))
   unfolding latch_clauses
-  latch_next latches i k h = rw (threes_next _ latches i h, add-one k) (flat_append (_ ∷ (_ ∷ [])) _)
+  latch_next latches k h = rw (threes_next _ latches k h, add-one k) (flat_append (_ ∷ (_ ∷ [])) _)
 
   -- ---- a gate's three clauses
   pub gate_masks_lem : (out left right : ℕ) (a b d : Clause)
@@ -158,9 +160,9 @@ module _ (place : ℕ → Place) where
   unfolding gate_clauses flat
   gate_end out left right w = w.end
 
-  pub gate_next : (gates : List ℕ) (i : ℕ) → i + 2 < length gates
-      → flat (gate_clauses place (gates_of (drop i gates)))
-      ≡ flat (gate_clauses place (gate_of (get_or gates i 0) (get_or gates (i + 1) 0) (get_or gates (i + 2) 0) ∷ []))
-      ++ flat (gate_clauses place (gates_of (drop (i + 3) gates)))
+  pub gate_next : (gates : List Row) (k : ℕ) → k < length gates
+      → flat (gate_clauses place (gates_of (flattened (drop k gates))))
+      ≡ flat (gate_clauses place (gate_of (get_or gates k no_row).literal (get_or gates k no_row).second (get_or gates k no_row).third ∷ []))
+      ++ flat (gate_clauses place (gates_of (flattened (drop (k + 1) gates))))
   unfolding gate_clauses
-  gate_next gates i h = rw (threes_next _ gates i h) (flat_append (_ ∷ (_ ∷ (_ ∷ []))) _)
+  gate_next gates k h = rw (threes_next _ gates k h) (flat_append (_ ∷ (_ ∷ (_ ∷ []))) _)

@@ -1,7 +1,11 @@
 -- What the private functions require and ensure, with a name for each fact. Nothing here has to be believed: no public promise mentions it.
-use Rattle.std.specs.Prelude.{ℕ, ◌+◌, ◌-◌, ◌*◌, ◌/◌, ◌^◌, ◌≤◌, ◌<◌, Bool, true, false, not, ◌||◌, ◌&&◌, List, [], ◌∷◌, ◌++◌, ◌⊎◌, ◌≡◌, eqb, ltb, length, take, drop}
+use Rattle.std.specs.Prelude.{ℕ, ◌+◌, ◌-◌, ◌*◌, ◌/◌, ◌^◌, ◌≤◌, ◌<◌, Bool, true, false, not, ◌||◌, ◌&&◌, List, [], ◌∷◌, ◌++◌, ◌≡◌, eqb, ltb, leb, length, take, drop, replicate, Option, Some, None, Result, Ok, Err}
 use Rattle.std.proofs.Math.Option.{none, some}
 use Rattle.base.specs.Refusals.{◌if◌, ◌else◌, most_clauses}
+use Rattle.base.specs.Numbers.{number_of}
+use Rattle.base.specs.declared.Fault.{Fault}
+use Rattle.base.specs.declared.Refusal.{Refusal}
+use Rattle.base.specs.declared.Refusal.TheVariants as refusal
 use Rattle.stores.specs.Lists.{Lists}
 use Rattle.stores.specs.Over.{over}
 use Rattle.text.specs.Lines.{lines, line_length}
@@ -11,19 +15,23 @@ use Rattle.system.specs.declared.Clause.{Clause}
 use Rattle.circuit.specs.Circuit.{Circuit, Latch, Gate, every, any, index}
 use Rattle.circuit.specs.Loops.{loop_free}
 use Rattle.circuit.specs.Refusals.{twice, wrong_start, right_starts}
-use Rattle.circuit.specs.Import.{Place, here, wire, nowhere, empty, marks, start_clauses, latch_clauses, gate_clauses, constraint_clauses, flat, import_refusal}
+use Rattle.circuit.specs.Import.{Place, imported, here, wire, nowhere, empty, marks, start_clauses, latch_clauses, gate_clauses, constraint_clauses, flat, import_refusal}
 use Rattle.aiger.specs.Numbers.{numbers}
-use Rattle.aiger.specs.Text.{fits, three, Part, broken, whole, with_row, part, firsts, vars, latches_of, gates_of, circuit_of, header_of}
+use Rattle.aiger.specs.Text.{three, row_of, Part, broken, whole, part, firsts, vars, latches_of, gates_of, circuit_of, header_of}
 use Rattle.aiger.specs.Text.{latch_form, uses, singles_of, Told, malformed, told}
-use Rattle.aiger.specs.Promise.{Result, imported_as}
+use Rattle.aiger.specs.Promise as promise
+use Rattle.aiger.specs.Promise.{report_of, entered}
 use Rattle.aiger.specs.declared.Imported.{Imported}
 use Rattle.aiger.specs.declared.part.Form.{Form}
-use Rattle.aiger.specs.declared.part.Progress.{Progress}
+use Rattle.aiger.specs.declared.table.Rows.{Rows}
+use Rattle.aiger.specs.declared.table.Row.{Row}
+use Rattle.aiger.specs.declared.table.Singles.{Singles}
+use Rattle.aiger.specs.declared.part.Line.{Line}
+use Rattle.aiger.specs.declared.part.Lines.{Lines}
+use Rattle.aiger.specs.declared.read.Edition.{Edition}
+use Rattle.aiger.specs.declared.read.Edition.TheVariants.{First, Newer}
 use Rattle.aiger.specs.declared.read.Header.{Header}
-use Rattle.aiger.specs.declared.read.Head.{Head}
-use Rattle.aiger.specs.declared.read.Head.TheVariants.{Right, Wrong}
 use Rattle.aiger.specs.declared.read.Reading.{Reading}
-use Rattle.aiger.specs.declared.again.Singles.{Singles}
 use Rattle.aiger.specs.declared.again.Watched.{Watched}
 use Rattle.aiger.specs.declared.again.Seen.{Seen}
 
@@ -36,71 +44,80 @@ pub record Found (line before : List ℕ) (r : ℕ) (after : List ℕ) : Type 0 
   pub fits : r ≤ length before
   pub content : after ≡ laid 0 xs before
 
-pub record Numbered (line before : List ℕ) (r : ℕ) (after : List ℕ) : Type 0 where
+pub record Numbered (line before : List ℕ) (r : Option ℕ) (after : List ℕ) : Type 0 where
   pub same : length after ≡ length before
-  pub found : 1 ≤ r → Found line before r after
-  pub lacks : r ≡ 0 → (xs : List ℕ) → numbers line ≡ some xs → length before < length xs
+  pub found : (count : ℕ) → r ≡ Some count → Found line before count after
+  pub lacks : r ≡ None → (xs : List ℕ) → numbers line ≡ some xs → length before < length xs
 
--- ---- parts
+-- ---- lines
+abbrev pub row_list : Row → List ℕ
+row_list row = row.literal ∷ (row.second ∷ (row.third ∷ []))
+
+abbrev pub no_row : Row
+no_row = record { literal = 0; second = 0; third = 0 }
+
+-- rows one behind the other
+abbrev pub flattened : List Row → List ℕ
+flattened [] = []
+flattened (row ∷ rows) = row.literal ∷ (row.second ∷ (row.third ∷ flattened rows))
+
+-- a row at this index, as far as the store reaches
+pub record PutsRow (at : ℕ) (row : Row) (before after : List Row) : Type 0 where
+  pub same : length after ≡ length before
+  pub content : flattened after ≡ laid (3 * at) (row_list row) (flattened before)
+
+-- the line that begins at this index
+pub record ReadsLine (text : List ℕ) (at : ℕ) (line : Line) : Type 0 where
+  pub within : line.end ≤ length text
+  pub ends : line.end ≡ at + line_length (drop at text)
+  pub found : List ℕ
+  pub row : row_list line.row ≡ three found
+  pub numbered : Numbered (take (line.end - at) (drop at text)) (replicate 3 0) line.count found
+
+-- a line has one to three literals, and a start value only where it has fewer
+pub record Fine (form : Form) : Type 0 where
+  pub some_number : 1 ≤ form.width
+  pub width : form.width ≤ 3
+  pub start : form.starts ≡ true → form.width ≤ 2
+
 unfoldable pub count_fits : Form → ℕ → Bool
 count_fits f count = eqb count f.width || (f.starts && eqb count (f.width + 1))
 
--- whether so many numbers are of the form, told of any list that has them
-pub record RowFits (form : Form) (count a b c : ℕ) (r : Bool) : Type 0 where
-  pub some_number : r ≡ true → 1 ≤ count
-  pub fits : (xs : List ℕ) → length xs ≡ count → count ≤ 3 → three xs ≡ a ∷ (b ∷ (c ∷ [])) → r ≡ fits form xs
+-- a line that was read has a row of the form, or none
+pub record TakesLine (form : Form) (line : Line) (r : Bool) : Type 0 where
+  pub right : r ≡ true → (bytes found : List ℕ) → row_list line.row ≡ three found → Numbered bytes (replicate 3 0) line.count found
+      → row_of form bytes ≡ some (row_list line.row)
+  pub wrong : r ≡ false → (bytes found : List ℕ) → row_list line.row ≡ three found → Numbered bytes (replicate 3 0) line.count found
+      → row_of form bytes ≡ none
 
--- what is left of a part
-unfoldable pub rest : List ℕ → Progress → Part
-rest text s = elim s.fault [ true ↦ broken s.line | false ↦ part s.form s.left s.line (lines (drop s.at text)) ]
+-- ---- parts
+-- no sum is too large
+pub record Begins (text : List ℕ) (from : ℕ) (l : Lines) : Type 0 where
+  pub fine : Fine l.form
+  pub within : from ≤ length text
+  pub rows : l.row + l.count < 2 ^ 62
+  pub lines : l.first + l.count < 2 ^ 62
 
--- no sum is too large, and a line has one to three numbers
-pub record Bounded (s : Progress) : Type 0 where
-  pub row : s.row + 3 * s.left < 2 ^ 62
-  pub lines : s.line + s.left < 2 ^ 62
-  pub line : 1 ≤ s.line
-  pub some_number : 1 ≤ s.form.width
-  pub width : s.form.width ≤ 3
-  pub start : s.form.starts ≡ true → s.form.width ≤ 2
+abbrev pub part_from : List ℕ → Lines → ℕ → Part
+part_from text l from = part l.form l.count l.first (lines (drop from text))
 
--- a turn can begin at a reader's place, or the part has ended
-pub record Stands (text : List ℕ) (at : ℕ) (s : Progress) : Type 0 where
-  pub reader : at ≤ length text
-  pub within : s.at ≤ length text
-  pub bounded : Bounded s
-  pub place : s.more ≡ true → s.at ≡ at
-  pub left : s.more ≡ true → 1 ≤ s.left
-  pub fine : s.more ≡ true → s.fault ≡ false
-  pub done : s.more ≡ false → (s.fault ≡ true) ⊎ (s.left ≡ 0)
-
-abbrev pub Begins : List ℕ → Progress → Type 0
-Begins text s = Stands text s.at s
-
-pub record GoesOn (text : List ℕ) (at end : ℕ) (s : Progress) : Type 0 where
-  pub stands : Stands text at s
-  pub more : s.more ≡ true
-  pub ends : end ≡ at + line_length (drop at text)
-
--- from one place of a part to another: rows were read, and written as far as the store reaches
-pub record Onward (text : List ℕ) (s : Progress) (before : List ℕ) (q : Progress) (after : List ℕ) : Type 0 where
+-- all were read: their rows, where they were written, and where the next part begins
+pub record Read (text : List ℕ) (l : Lines) (from : ℕ) (before : List Row) (end : ℕ) (after : List Row) : Type 0 where
   pub rows : List ℕ
-  pub says : rest text s ≡ with_row rows (rest text q)
-  pub content : after ≡ laid s.row rows before
-  pub next : q.row ≡ s.row + length rows
-  pub form : q.form ≡ s.form
+  pub says : part_from text l from ≡ whole rows (l.first + l.count) (lines (drop end text))
+  pub content : flattened after ≡ laid (3 * l.row) rows (flattened before)
+  pub within : end ≤ length text
 
-pub record Turned (text : List ℕ) (end : ℕ) (s : Progress) (before : List ℕ) (q : Progress) (after : List ℕ) : Type 0 where
-  pub stands : Stands text end q
-  pub onward : Onward text s before q after
-  pub less : q.more ≡ true → q.left < s.left
-
-pub record Takes (text : List ℕ) (s : Progress) (before : List ℕ) (q : Progress) (after : List ℕ) : Type 0 where
-  pub done : (q.fault ≡ true) ⊎ (q.left ≡ 0)
-  pub within : q.at ≤ length text
-  pub bounded : Bounded q
-  pub onward : Onward text s before q after
+pub record Takes (text : List ℕ) (l : Lines) (from : ℕ) (before : List Row) (r : Result ℕ Fault) (after : List Row) : Type 0 where
+  pub same : length after ≡ length before
+  pub wrong : (f : Fault) → r ≡ Err f → (f.refusal ≡ refusal.Form) × (part_from text l from ≡ broken f.line)
+  pub right : (end : ℕ) → r ≡ Ok end → Read text l from before end after
 
 -- ---- the text
+abbrev pub newer_in : Edition → Bool
+newer_in First = false
+newer_in Newer = true
+
 pub record Small (h : Header) : Type 0 where
   pub m : h.m < 2 ^ 32
   pub inputs : h.inputs < 2 ^ 32
@@ -110,20 +127,17 @@ pub record Small (h : Header) : Type 0 where
   pub bads : h.bads < 2 ^ 32
   pub constraints : h.constraints < 2 ^ 32
 
-abbrev pub HeadOf : Bool → List ℕ → Head → Type 0
-HeadOf newer line (Right h) = (header_of newer line ≡ some h) × Small h
-HeadOf newer line Wrong = header_of newer line ≡ none
+abbrev pub HeadOf : Bool → List ℕ → Option Header → Type 0
+HeadOf newer line (Some h) = (header_of newer line ≡ some h) × Small h
+HeadOf newer line None = header_of newer line ≡ none
 
-abbrev pub begun : Form → ℕ → ℕ → ℕ → ℕ → Progress
-begun form count line at row =
-    record { more = ltb 0 count; fault = false; left = count; line = line; at = at; row = row; form = form }
+-- a line that is missing or wrong
+abbrev pub wrong_form : ℕ → Fault
+wrong_form line = record { refusal = refusal.Form; line = line }
 
-abbrev pub fault_at : Header → ℕ → ℕ → Reading
-fault_at header number line = record { number = number; line = line; header = header; latches = 0; singles = 0 }
-
--- numbers of the most rows
+-- the most rows
 abbrev pub most_rows : ℕ
-most_rows = 288
+most_rows = 96
 
 -- the latches of these rows start at 0
 abbrev pub Low : List ℕ → Type 0
@@ -160,16 +174,15 @@ pub record Kept (text : List ℕ) (what : Told) (before : List ℕ) (r : Reading
   pub content :
       after ≡ laid (3 * r.header.latches + 3 * r.header.inputs) gates (laid 0 latches (laid (3 * r.header.latches) inputs before))
 
-pub record ReadAs (text : List ℕ) (what : Told) (before : List ℕ) (r : Reading) (after : List ℕ) : Type 0 where
+pub record ReadAs (text : List ℕ) (what : Told) (before : List Row) (r : Result Reading Fault) (after : List Row) : Type 0 where
   pub same : length after ≡ length before
-  pub wrong : (r.number ≡ 0 → ⊥) → what ≡ malformed r.number r.line
-  pub right : r.number ≡ 0 → Kept text what before r after
+  pub wrong : (f : Fault) → r ≡ Err f → what ≡ malformed (number_of f.refusal) f.line
+  pub right : (q : Reading) → r ≡ Ok q → Kept text what (flattened before) q (flattened after)
 
 -- ---- variables
--- so many rows of three
-pub record Threes (rows : List ℕ) : Type 0 where
-  pub count : ℕ
-  pub many : length rows ≡ 3 * count
+-- whether a row is a variable's
+abbrev pub has_var : ℕ → Row → Bool
+has_var v row = eqb (row.literal / 2) v
 
 unfoldable pub known_in : List ℕ → ℕ → Bool
 known_in vs l = eqb (l / 2) 0 || listed vs (l / 2)
@@ -177,6 +190,9 @@ known_in vs l = eqb (l / 2) 0 || listed vs (l / 2)
 -- the second and third number of each row are known
 abbrev pub all_known : List ℕ → List ℕ → Bool
 all_known vs rows = every (λ (g : Gate). known_in vs g.left && known_in vs g.right) (gates_of rows)
+
+abbrev pub line_known : List ℕ → Row → Bool
+line_known vs row = known_in vs row.second && known_in vs row.third
 
 -- where no variable is defined twice, the test for refusal 25
 abbrev pub LoopFree : List ℕ → Bool → Type 0
@@ -196,19 +212,26 @@ latch_of next = record { var = 0; next = next; start = 0 }
 abbrev pub gate_of : ℕ → ℕ → ℕ → Gate
 gate_of out left right = record { out = out / 2; left = left; right = right }
 
--- the rows of up to 32 latches and up to 64 wires
-pub record Fits (rows : List ℕ) (latches : ℕ) : Type 0 where
-  pub threes : Threes rows
-  pub most : latches ≤ 32
-  pub within : 3 * latches ≤ length rows
-  pub wires : length rows ≤ 3 * (latches + 64)
-
 -- where a variable stands, by its row
 unfoldable pub place_in : List ℕ → ℕ → ℕ → Place
 place_in vs latches v = elim (listed vs v) [ true ↦ place_at latches (index vs v) | false ↦ nowhere ]
 
 abbrev pub place_by : List ℕ → ℕ → ℕ → Place
 place_by rows latches = place_in (vars rows) latches
+
+abbrev pub placed : Rows → ℕ → Place
+placed rows = place_by (flattened rows.all.now) rows.latch_count
+
+-- the numbers of latches and of gates
+abbrev pub latch_rows : Rows → List ℕ
+latch_rows rows = flattened (take rows.latch_count rows.all.now)
+
+abbrev pub gate_rows : Rows → List ℕ
+gate_rows rows = flattened (drop rows.first_gate rows.all.now)
+
+-- whether a latch's start value is not "either"
+abbrev pub is_fixed : Row → Bool
+is_fixed row = leb row.third 1
 
 -- the three lists, by rows
 unfoldable pub start_list : List ℕ → List ℕ
@@ -231,14 +254,20 @@ pub record Entered (list before : List ℕ) (r : ℕ) (after : List ℕ) : Type 
 
 -- ---- lines read again
 -- what is said of rows of latches, and of literals that stand alone, wherever they can be read
-abbrev pub RightStarts : List ℕ → ℕ → ℕ → ℕ → Type 0
-RightStarts text at count r =
-    (h : Header) (latches : List ℕ) → ReadAgain text (latch_form h) at count latches → r ≡ right_starts (latches_of latches)
+pub record RightStarts (text : List ℕ) (at count : ℕ) (r : Option ℕ) : Type 0 where
+  pub few : (k : ℕ) → r ≡ Some k → k < count
+  pub right : r ≡ None → (h : Header) (latches : List ℕ) → ReadAgain text (latch_form h) at count latches
+      → any wrong_start (latches_of latches) ≡ false
+  pub wrong : (k : ℕ) → r ≡ Some k → (h : Header) (latches : List ℕ) → ReadAgain text (latch_form h) at count latches
+      → (any wrong_start (latches_of latches) ≡ true) × (k ≡ right_starts (latches_of latches))
 
-pub record Watches (text : List ℕ) (s : Singles) (rows : List ℕ) (latches : ℕ) (q : Watched) : Type 0 where
-  pub within : q.at ≤ length text
-  pub says : (h : Header) (singles : List ℕ) (others : List (List ℕ)) → Again text (uses h) s.at s.count singles others
-      → (q.known ≡ every (known_in (vars rows)) (firsts singles))
+pub record Watches (text : List ℕ) (at count : ℕ) (rows : List ℕ) (latches : ℕ) (r : Option Watched) : Type 0 where
+  pub within : (q : Watched) → r ≡ Some q → q.at ≤ length text
+  pub unknown : r ≡ None → (h : Header) (singles : List ℕ) (others : List (List ℕ)) → Again text (uses h) at count singles others
+      → every (known_in (vars rows)) (firsts singles) ≡ false
+  pub says : (q : Watched) → r ≡ Some q → (h : Header) (singles : List ℕ) (others : List (List ℕ))
+      → Again text (uses h) at count singles others
+      → (every (known_in (vars rows)) (firsts singles) ≡ true)
       × (q.clause ≡ marks (place_by rows latches) empty (firsts singles))
       × (others ≡ lines (drop q.at text))
 
@@ -250,32 +279,33 @@ abbrev pub constraints_of : Header → List ℕ → List ℕ
 constraints_of h literals = drop (h.outputs + h.bads) literals
 
 -- these constraints are read again
-pub record Constraints (text : List ℕ) (s : Singles) (literals : List ℕ) : Type 0 where
+pub record Constraints (text : List ℕ) (at count : ℕ) (literals : List ℕ) : Type 0 where
   pub header : Header
   pub rows : List ℕ
-  pub again : ReadAgain text (uses header) s.at s.count rows
+  pub again : ReadAgain text (uses header) at count rows
   pub literals_are : literals ≡ firsts rows
 
-pub record Sees (text : List ℕ) (h : Header) (at : ℕ) (rows : List ℕ) (latches : ℕ) (q : Seen) : Type 0 where
-  pub within : q.constraints.at ≤ length text
-  pub count : q.constraints.count ≡ h.constraints
-  pub says : (singles : List ℕ) → ReadAgain text (uses h) at (singles_of h) singles
-      → (q.known ≡ every (known_in (vars rows)) (firsts singles))
+pub record Sees (text : List ℕ) (h : Header) (at : ℕ) (rows : List ℕ) (latches : ℕ) (r : Option Seen) : Type 0 where
+  pub within : (q : Seen) → r ≡ Some q → q.constraints ≤ length text
+  pub unknown : r ≡ None → (singles : List ℕ) → ReadAgain text (uses h) at (singles_of h) singles
+      → every (known_in (vars rows)) (firsts singles) ≡ false
+  pub says : (q : Seen) → r ≡ Some q → (singles : List ℕ) → ReadAgain text (uses h) at (singles_of h) singles
+      → (every (known_in (vars rows)) (firsts singles) ≡ true)
       × (q.watched ≡ marks (place_by rows latches) empty (watched_of h (firsts singles)))
-      × Constraints text q.constraints (constraints_of h (firsts singles))
+      × Constraints text q.constraints h.constraints (constraints_of h (firsts singles))
 
-pub record PutsConstraints (text : List ℕ) (s : Singles) (place : ℕ → Place) (from : ℕ) (before : List ℕ) (r : ℕ) (after : List ℕ) : Type 0 where
+pub record PutsConstraints (c : Singles) (place : ℕ → Place) (from : ℕ) (before : List ℕ) (r : ℕ) (after : List ℕ) : Type 0 where
   pub same : length after ≡ length before
-  pub says : (literals : List ℕ) → Constraints text s literals → Writes from (flat (constraint_clauses place literals)) before r after
+  pub says : (literals : List ℕ) → Constraints c.text.now c.at c.count literals → Writes from (flat (constraint_clauses place literals)) before r after
 
 -- lists that are entered with these constraints
-abbrev pub EntersStep : List ℕ → Singles → List ℕ → List ℕ → List ℕ → List ℕ → ℕ → List ℕ → Type 0
-EntersStep text s rows latches gates before r after =
-    (literals : List ℕ) → Constraints text s literals → Entered (step_list rows latches gates literals) before r after
+abbrev pub EntersStep : Singles → List ℕ → List ℕ → List ℕ → List ℕ → ℕ → List ℕ → Type 0
+EntersStep c rows latches gates before r after =
+    (literals : List ℕ) → Constraints c.text.now c.at c.count literals → Entered (step_list rows latches gates literals) before r after
 
-abbrev pub EntersBad : List ℕ → Singles → List ℕ → ℕ → List ℕ → Clause → List ℕ → ℕ → List ℕ → Type 0
-EntersBad text s rows latches gates watched before r after =
-    (literals : List ℕ) → Constraints text s literals → Entered (bad_list rows latches gates literals watched) before r after
+abbrev pub EntersBad : Singles → List ℕ → ℕ → List ℕ → Clause → List ℕ → ℕ → List ℕ → Type 0
+EntersBad c rows latches gates watched before r after =
+    (literals : List ℕ) → Constraints c.text.now c.at c.count literals → Entered (bad_list rows latches gates literals watched) before r after
 
 -- ---- the refusals in their order
 unfoldable pub too_few : Header → Bool
@@ -289,29 +319,35 @@ pub record Limits (h : Header) : Type 0 where
   pub latches : h.latches ≤ 32
   pub wires : h.inputs + h.gates ≤ 64
 
-pub record Sized (h : Header) (rows : List ℕ) : Type 0 where
+pub record Sized (h : Header) (rows : List Row) : Type 0 where
   pub limits : Limits h
-  pub many : length rows ≡ 3 * (h.latches + h.inputs + h.gates)
+  pub many : length rows ≡ h.latches + h.inputs + h.gates
+
+-- the rows of a header's circuit
+pub record OfHeader (h : Header) (rows : Rows) : Type 0 where
+  pub latches : rows.latch_count ≡ h.latches
+  pub gates : rows.first_gate ≡ h.latches + h.inputs
+  pub many : length rows.all.now ≡ h.latches + h.inputs + h.gates
 
 -- what is judged: the rows of latches, inputs and gates, and the literals that stand alone
-pub record Held (text : List ℕ) (r : Reading) (rows : List ℕ) : Type 0 where
+pub record Held (text : List ℕ) (r : Reading) (rows : List Row) : Type 0 where
   pub inputs : List ℕ
   pub latches : List ℕ
   pub singles : List ℕ
   pub gates : List ℕ
   pub counted : Counted text r inputs latches singles gates
-  pub content : rows ≡ latches ++ (inputs ++ gates)
+  pub content : flattened rows ≡ latches ++ (inputs ++ gates)
   pub enough : too_few r.header ≡ false
   pub right : any wrong_start (latches_of latches) ≡ false
   pub header : header_refusal r.header ≡ 0
 
-abbrev pub circuit_in : {text : List ℕ} {r : Reading} {rows : List ℕ} → Held text r rows → Circuit
+abbrev pub circuit_in : {text : List ℕ} {r : Reading} {rows : List Row} → Held text r rows → Circuit
 circuit_in {r = r} h = circuit_of r.header h.inputs h.latches h.singles h.gates
 
-unfoldable pub wrong_rows : List ℕ → Header → Bool
-wrong_rows rows h =
+unfoldable pub wrong_rows : List ℕ → ℕ → ℕ → Bool
+wrong_rows rows latches gates =
     twice (vars rows)
-    || (not (all_known (vars rows) (take (3 * h.latches) rows)) || not (all_known (vars rows) (drop (3 * (h.latches + h.inputs)) rows)))
+    || (not (all_known (vars rows) (take (3 * latches) rows)) || not (all_known (vars rows) (drop (3 * gates) rows)))
 
 -- the clauses that step and bad share
 abbrev pub shared_count : Header → ℕ
@@ -327,17 +363,33 @@ last_refusal h latches start step bad =
     else 2 if ltb most_clauses (2 * h.latches + shared_count h)
 
 -- the lists are entered, if each store has room
-pub record Enters (text : List ℕ) (s : Singles) (rows : List ℕ) (h : Header) (watched : Clause) (lent : Lists) (r : Imported) (after : Lists) : Type 0 where
-  pub number : (r.number ≡ 0) × (r.line ≡ 0)
+pub record Enters (c : Singles) (rows : List ℕ) (h : Header) (watched : Clause) (lent : Lists) (r : Imported) (after : Lists) : Type 0 where
   pub sizes : (r.n ≡ h.latches) × (r.w ≡ h.inputs + h.gates)
   pub start : Entered (start_list (take (3 * h.latches) rows)) lent.start r.start after.start
   pub step :
-      EntersStep text s rows (take (3 * h.latches) rows) (drop (3 * (h.latches + h.inputs)) rows) lent.step r.step after.step
-  pub bad : EntersBad text s rows h.latches (drop (3 * (h.latches + h.inputs)) rows) watched lent.bad r.bad after.bad
+      EntersStep c rows (take (3 * h.latches) rows) (drop (3 * (h.latches + h.inputs)) rows) lent.step r.step after.step
+  pub bad : EntersBad c rows h.latches (drop (3 * (h.latches + h.inputs)) rows) watched lent.bad r.bad after.bad
 
--- what was held is imported or refused
-abbrev pub Judges : List ℕ → Reading → List ℕ → Lists → Imported → Lists → Type 0
-Judges text r rows lent import after =
+-- the line of a refusal that a start value is not the reason of: the header's, or none
+abbrev pub header_line : Refusal → ℕ
+header_line refusal.TooFew = 1
+header_line refusal.Latches = 1
+header_line refusal.Wires = 1
+header_line refusal.Watched = 1
+header_line _ = 0
+
+pub record FaultOf (r : Refusal) (f : Fault) : Type 0 where
+  pub refusal : f.refusal ≡ r
+  pub line : f.line ≡ header_line r
+
+-- a circuit with this refusal, or 0, is entered or refused
+abbrev pub Judged : Lists → Circuit → ℕ → Result Imported Refusal → Lists → Type 0
+Judged lent c number (Ok i) after =
+    (number ≡ 0) × ◌≡◌ {A = promise.Result} (record { import = report_of (Ok i); after = after }) (entered (imported c) lent)
+Judged lent c number (Err r) after = (number ≡ number_of r) × (number_of r ≡ 28 → ⊥) × (after ≡ lent)
+
+-- what was held is judged
+abbrev pub Judges : List ℕ → Reading → List Row → Lists → Result Imported Refusal → Lists → Type 0
+Judges text r rows lent result after =
     (h : Held text r rows)
-    → ◌≡◌ {A = Result} (record { import = import; after = after })
-    (imported_as lent (circuit_in h) (import_refusal r.header.m (circuit_in h) (length lent.start) (length lent.step) (length lent.bad)))
+    → Judged lent (circuit_in h) (import_refusal r.header.m (circuit_in h) (length lent.start) (length lent.step) (length lent.bad)) result after

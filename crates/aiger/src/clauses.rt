@@ -1,16 +1,15 @@
 // The clauses of a circuit, written into lent stores one behind the other, as far as these reach. A literal comes as its variable and a sign, 1 if it
 // is inverted. The first rows are the latches', so the index of a variable's row says where it stands.
-ghost use Rattle.std.specs.Prelude.{[], ◌∷◌, ◌≡◌, ◌+◌, ◌*◌, ◌/◌, ◌≤◌, ◌<◌, ◌^◌, length};
+ghost use Rattle.std.specs.Prelude.{[], ◌∷◌, ◌≡◌, ◌+◌, ◌*◌, ◌/◌, ◌≤◌, ◌<◌, ◌^◌, length, count_by};
 ghost use Rattle.text.specs.Writing.{Writes};
 ghost use Rattle.circuit.specs.Import.{here, with_place, empty, mark, start_clauses, latch_clauses, gate_clauses, flat};
 ghost use Rattle.aiger.specs.Text.{latches_of, gates_of};
-ghost use Rattle.aiger.specs.Inner.{place_at, place_by, starting_at, latch_of, gate_of, Fits, start_list, Entered};
+ghost use Rattle.aiger.specs.Inner.{flattened, latch_rows, gate_rows, place_at, placed, starting_at, latch_of, gate_of, start_list, is_fixed, Entered};
 ghost use Rattle.aiger.specs.Inner.{PutsConstraints, EntersStep, EntersBad};
 
-use super::again::Singles;
 use super::find::find;
-use super::numbers::numbers;
-use super::part::put;
+use super::part::read_line;
+use super::table::{Row, Rows, Singles};
 use masks::Mask;
 use system::Clause;
 
@@ -50,31 +49,42 @@ fn with_row(m: Mask, k: usize, latches: usize) -> Mask
 }
 
 // A literal more in a clause. A variable without a row is false: its literal is dropped, and the inverted one makes the clause always true.
-pub(super) fn with_literal(rows: &[u64], latches: usize, m: Clause, v: u64, sign: u64) -> Clause
-    requires { Fits rows.now latches }
-    ensures { result ≡ mark (place_by rows.now latches v) sign m }
+pub(super) fn with_literal(rows: Rows, m: Clause, v: u64, sign: u64) -> Clause
+    ensures { result ≡ mark (placed rows.entry v) sign m }
 {
     let Clause { ones, zeros } = m;
-    let k = find(rows, v);
-    if k < rows.len() / 3 {
+    let Some(k) = find(rows.all, v) else {
         if sign == 0 {
-            return Clause {
-                ones: with_row(ones, k, latches),
-                zeros,
-            };
+            return m;
         }
         return Clause {
-            ones,
-            zeros: with_row(zeros, k, latches),
+            ones: with_bit(ones, 0),
+            zeros: with_bit(zeros, 0),
+        };
+    };
+    if sign == 0 {
+        return Clause {
+            ones: with_row(ones, k, rows.latch_count),
+            zeros,
         };
     }
-    if sign == 0 {
-        return Clause { ones, zeros };
-    }
     Clause {
-        ones: with_bit(ones, 0),
-        zeros: with_bit(zeros, 0),
+        ones,
+        zeros: with_row(zeros, k, rows.latch_count),
     }
+}
+
+// One number at this index, if the store reaches so far.
+// Stays: `text::put` does the same with bytes. `laid`, on which the public promises of both rest, is of numbers; one function of both types would need a
+// trait whose law says what number each value is, and is no plainer.
+fn put(store: &mut [u64], at: usize, x: u64) -> usize
+    requires { at < 2 ^ 63 }
+    ensures { Writes at (x ∷ []) store.old result store.new }
+{
+    if at < store.len() {
+        store[at] = x;
+    }
+    at + 1
 }
 
 // A clause's four masks.
@@ -90,6 +100,8 @@ fn put_clause(store: &mut [u64], at: usize, m: Clause) -> usize
 }
 
 // The clause of latch k by its start value; none for "either".
+// Stays: `at < 2 ^ 32`, here and in the two below. A list is counted on where its store ends, so no slice carries it; a u32 would, but each would cast it
+// to add to it, since the end has to be a usize, and each caller would cast it back.
 fn put_first(k: usize, start: u64, store: &mut [u64], at: usize) -> usize
     requires { (k < 32) × (at < 2 ^ 32) }
     ensures { Writes at (flat (start_clauses k (starting_at start ∷ []))) store.old result store.new }
@@ -113,56 +125,36 @@ fn put_first(k: usize, start: u64, store: &mut [u64], at: usize) -> usize
 }
 
 // Start: every latch has its start value.
-fn put_start(latches: &[u64], store: &mut [u64]) -> usize
-    requires { length latches.now ≤ 96 }
-    ensures { Writes 0 (flat (start_clauses 0 (latches_of latches.now))) store.old result store.new }
+fn put_start(rows: Rows, store: &mut [u64]) -> usize
+    ensures { Writes 0 (flat (start_clauses 0 (latches_of (latch_rows rows.entry)))) store.old result store.new }
 {
+    let latches = rows.latches();
     let mut at = 0;
-    let mut k = 0;
-    let mut i = 0;
-    while i + 2 < latches.len() {
-        at = put_first(k, latches[i + 2], store, at);
-        k += 1;
-        i += 3;
+    for (k, latch) in latches.iter().enumerate() {
+        at = put_first(k, latch.third, store, at);
     }
     at
 }
 
 // How many latches have a fixed start value.
-pub(super) fn fixed_starts(latches: &[u64]) -> usize
-    requires { length latches.now ≤ 96 }
-    ensures { 4 * result ≡ length (start_list latches.now) }
+pub(super) fn fixed_starts(latches: &[Row]) -> usize
+    ensures { result ≡ count_by is_fixed latches.now }
 {
-    let mut count = 0;
-    let mut i = 0;
-    while i + 2 < latches.len() {
-        if latches[i + 2] <= 1 {
-            count += 1;
-        }
-        i += 3;
-    }
-    count
+    latches.iter().filter(|latch| latch.third <= 1).count()
 }
 
 // The two clauses of latch k: its bit one step later equals the literal.
-fn put_latch(
-    rows: &[u64],
-    latches: usize,
-    k: usize,
-    next: u64,
-    store: &mut [u64],
-    at: usize,
-) -> usize
-    requires { Fits rows.now latches × (k < 32) × (at < 2 ^ 32) }
-    ensures { Writes at (flat (latch_clauses (place_by rows.now latches) k (latch_of next ∷ []))) store.old result store.new }
+fn put_latch(rows: Rows, k: usize, next: u64, store: &mut [u64], at: usize) -> usize
+    requires { (k < 32) × (at < 2 ^ 32) }
+    ensures { Writes at (flat (latch_clauses (placed rows.entry) k (latch_of next ∷ []))) store.old result store.new }
 {
-    let Clause { ones, zeros } = with_literal(rows, latches, no_literal(), next / 2, 1 - next % 2);
+    let Clause { ones, zeros } = with_literal(rows, no_literal(), next / 2, 1 - next % 2);
     let m = Clause {
         ones: with_bit(ones, 32 + k),
         zeros,
     };
     let at = put_clause(store, at, m);
-    let Clause { ones, zeros } = with_literal(rows, latches, no_literal(), next / 2, next % 2);
+    let Clause { ones, zeros } = with_literal(rows, no_literal(), next / 2, next % 2);
     let m = Clause {
         ones,
         zeros: with_bit(zeros, 32 + k),
@@ -171,142 +163,93 @@ fn put_latch(
 }
 
 // Step: two clauses a latch.
-fn put_latches(rows: &[u64], latches: &[u64], store: &mut [u64]) -> usize
-    requires { Fits rows.now (length latches.now / 3) }
-    ensures { Writes 0 (flat (latch_clauses (place_by rows.now (length latches.now / 3)) 0 (latches_of latches.now))) store.old result store.new }
+fn put_latches(rows: Rows, store: &mut [u64]) -> usize
+    ensures { Writes 0 (flat (latch_clauses (placed rows.entry) 0 (latches_of (latch_rows rows.entry)))) store.old result store.new }
 {
-    let count = latches.len() / 3;
+    let latches = rows.latches();
     let mut at = 0;
-    let mut k = 0;
-    let mut i = 0;
-    while i + 2 < latches.len() {
-        at = put_latch(rows, count, k, latches[i + 1], store, at);
-        k += 1;
-        i += 3;
+    for (k, latch) in latches.iter().enumerate() {
+        at = put_latch(rows, k, latch.second, store, at);
     }
     at
 }
 
 // The three clauses of a gate.
-fn put_gate(
-    rows: &[u64],
-    latches: usize,
-    out: u64,
-    left: u64,
-    right: u64,
-    store: &mut [u64],
-    at: usize,
-) -> usize
-    requires { Fits rows.now latches × (at < 2 ^ 32) }
-    ensures { Writes at (flat (gate_clauses (place_by rows.now latches) (gate_of out left right ∷ []))) store.old result store.new }
+fn put_gate(rows: Rows, gate: Row, store: &mut [u64], at: usize) -> usize
+    requires { at < 2 ^ 32 }
+    ensures { Writes at (flat (gate_clauses (placed rows.entry) (gate_of gate.literal gate.second gate.third ∷ []))) store.old result store.new }
 {
-    let not_out = with_literal(rows, latches, no_literal(), out / 2, 1);
-    let m = with_literal(rows, latches, not_out, left / 2, left % 2);
+    let out = gate.literal;
+    let left = gate.second;
+    let right = gate.third;
+    let not_out = with_literal(rows, no_literal(), out / 2, 1);
+    let m = with_literal(rows, not_out, left / 2, left % 2);
     let at = put_clause(store, at, m);
-    let m = with_literal(rows, latches, not_out, right / 2, right % 2);
+    let m = with_literal(rows, not_out, right / 2, right % 2);
     let at = put_clause(store, at, m);
-    let m = with_literal(rows, latches, no_literal(), out / 2, 0);
-    let m = with_literal(rows, latches, m, left / 2, 1 - left % 2);
-    let m = with_literal(rows, latches, m, right / 2, 1 - right % 2);
+    let m = with_literal(rows, no_literal(), out / 2, 0);
+    let m = with_literal(rows, m, left / 2, 1 - left % 2);
+    let m = with_literal(rows, m, right / 2, 1 - right % 2);
     put_clause(store, at, m)
 }
 
 // Three clauses a gate.
-fn put_gates(rows: &[u64], latches: usize, gates: &[u64], store: &mut [u64], from: usize) -> usize
-    requires { Fits rows.now latches × (length gates.now ≤ 192) × (from < 2 ^ 16) }
-    ensures { Writes from (flat (gate_clauses (place_by rows.now latches) (gates_of gates.now))) store.old result store.new }
+fn put_gates(rows: Rows, store: &mut [u64], from: usize) -> usize
+    requires { from < 2 ^ 16 }
+    ensures { Writes from (flat (gate_clauses (placed rows.entry) (gates_of (gate_rows rows.entry)))) store.old result store.new }
 {
+    let gates = rows.gates();
     let mut at = from;
-    let mut i = 0;
-    while i + 2 < gates.len() {
-        at = put_gate(
-            rows,
-            latches,
-            gates[i],
-            gates[i + 1],
-            gates[i + 2],
-            store,
-            at,
-        );
-        i += 3;
+    for gate in gates {
+        at = put_gate(rows, *gate, store, at);
     }
     at
 }
 
 // One clause a constraint; their lines are read again.
-fn put_constraints(
-    text: &[u8],
-    c: Singles,
-    rows: &[u64],
-    latches: usize,
-    store: &mut [u64],
-    from: usize,
-) -> usize
-    requires { Fits rows.now latches × (c.at ≤ length text.now) × (c.count ≤ 4096) × (from < 2 ^ 16) }
-    ensures { PutsConstraints text.now c (place_by rows.now latches) from store.old result store.new }
+fn put_constraints(c: Singles, rows: Rows, store: &mut [u64], from: usize) -> usize
+    requires { from < 2 ^ 16 }
+    ensures { PutsConstraints c.entry (placed rows.entry) from store.old result store.new }
 {
     let mut at = c.at;
-    let mut left = c.count;
-    let mut end = from;
-    while 0 < left {
-        let len = text::line_length(text, at);
-        let mut row = [0u64; 3];
-        numbers(&text[at..at + len], &mut row);
-        let l = row[0];
-        let m = with_literal(rows, latches, no_literal(), l / 2, l % 2);
-        end = put_clause(store, end, m);
-        at += len;
-        left -= 1;
+    let mut next = from;
+    for _ in 0..c.count {
+        let line = read_line(c.text, at);
+        let l = line.row.literal;
+        let m = with_literal(rows, no_literal(), l / 2, l % 2);
+        next = put_clause(store, next, m);
+        at = line.end;
     }
-    end
+    next
 }
 
 // The list of start in front of its store, and zeros behind it; how many masks it has.
-pub(super) fn enter_start(latches: &[u64], store: &mut [u64]) -> usize
-    requires { length latches.now ≤ 96 }
-    ensures { Entered (start_list latches.now) store.old result store.new }
+pub(super) fn enter_start(rows: Rows, store: &mut [u64]) -> usize
+    ensures { Entered (start_list (latch_rows rows.entry)) store.old result store.new }
 {
-    let end = put_start(latches, store);
+    let end = put_start(rows, store);
     stores::clear_behind(store, end);
     end
 }
 
 // The list of step: two clauses a latch, then three a gate and one a constraint.
-pub(super) fn enter_step(
-    text: &[u8],
-    c: Singles,
-    rows: &[u64],
-    latches: &[u64],
-    gates: &[u64],
-    store: &mut [u64],
-) -> usize
-    requires { Fits rows.now (length latches.now / 3) × (length gates.now ≤ 192) × (c.at ≤ length text.now) × (c.count ≤ 4096) }
-    ensures { EntersStep text.now c rows.now latches.now gates.now store.old result store.new }
+pub(super) fn enter_step(c: Singles, rows: Rows, store: &mut [u64]) -> usize
+    ensures { EntersStep c.entry (flattened rows.entry.all.now) (latch_rows rows.entry) (gate_rows rows.entry) store.old result store.new }
 {
-    let count = latches.len() / 3;
-    let end = put_latches(rows, latches, store);
-    let end = put_gates(rows, count, gates, store, end);
-    let end = put_constraints(text, c, rows, count, store, end);
+    let end = put_latches(rows, store);
+    let end = put_gates(rows, store, end);
+    let end = put_constraints(c, rows, store, end);
     stores::clear_behind(store, end);
     end
 }
 
 // The list of bad: the clause of what is watched, then three a gate and one a constraint.
-pub(super) fn enter_bad(
-    text: &[u8],
-    c: Singles,
-    rows: &[u64],
-    latches: usize,
-    gates: &[u64],
-    watched: Clause,
-    store: &mut [u64],
-) -> usize
-    requires { Fits rows.now latches × (length gates.now ≤ 192) × (c.at ≤ length text.now) × (c.count ≤ 4096) }
-    ensures { EntersBad text.now c rows.now latches gates.now watched store.old result store.new }
+pub(super) fn enter_bad(c: Singles, rows: Rows, watched: Clause, store: &mut [u64]) -> usize
+    ensures { EntersBad c.entry (flattened rows.entry.all.now) rows.entry.latch_count (gate_rows rows.entry) watched store.old result store.new }
 {
-    let end = put_clause(store, 0, watched);
-    let end = put_gates(rows, latches, gates, store, end);
-    let end = put_constraints(text, c, rows, latches, store, end);
+    let front = put_clause(store, 0, watched);
+    let front = put_gates(rows, store, front);
+    let end = put_constraints(c, rows, store, front);
     stores::clear_behind(store, end);
     end
 }

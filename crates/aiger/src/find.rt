@@ -1,109 +1,84 @@
 // Variables are found by looking through the rows, of which there are at most 96: no table over M. Refusal 24, a variable defined twice or used and
 // not defined; refusal 25, a gate that depends on itself, by one mask of gates.
-ghost use Rattle.std.specs.Prelude.{true, ◌≡◌, ◌-◌, ◌^◌, ◌≤◌, length};
-ghost use Rattle.circuit.specs.Circuit.{index, among};
+ghost use Rattle.std.specs.Prelude.{true, ◌≡◌, ◌-◌, ◌^◌, ◌≤◌};
+ghost use Rattle.std.specs.List.{list_all, position};
+ghost use Rattle.circuit.specs.Circuit.{among};
 ghost use Rattle.circuit.specs.Loops.{round};
 ghost use Rattle.circuit.specs.Refusals.{twice};
 ghost use Rattle.aiger.specs.Text.{vars, gates_of};
-ghost use Rattle.aiger.specs.Inner.{known_in, all_known, Threes, LoopFree};
+ghost use Rattle.aiger.specs.Inner.{flattened, gate_rows, has_var, known_in, line_known, LoopFree};
 
-// The first row of a variable, or how many rows there are.
-pub(super) fn find(rows: &[u64], v: u64) -> usize
-    ensures { result ≡ index (vars rows.now) v }
+use super::table::{Row, Rows};
+
+// The first row of a variable.
+pub(super) fn find(rows: &[Row], v: u64) -> Option<usize>
+    ensures { result ≡ position (has_var v) rows.now }
 {
-    let mut k = 0;
-    let mut i = 0;
-    while i + 2 < rows.len() {
-        if rows[i] / 2 == v {
-            return k;
-        }
-        k += 1;
-        i += 3;
-    }
-    k
+    rows.iter().position(|row| row.literal / 2 == v)
 }
 
 // Whether a variable has two rows.
-pub(super) fn defined_twice(rows: &[u64]) -> bool
-    requires { Threes rows.now }
-    ensures { result ≡ twice (vars rows.now) }
+pub(super) fn defined_twice(rows: &[Row]) -> bool
+    ensures { result ≡ twice (vars (flattened rows.now)) }
 {
-    let mut i = 0;
-    while i + 2 < rows.len() {
-        let rest = &rows[i + 3..];
-        if find(rest, rows[i] / 2) < rest.len() / 3 {
+    let mut left = rows;
+    while let [row, rest @ ..] = left {
+        if find(rest, row.literal / 2).is_some() {
             return true;
         }
-        i += 3;
+        left = rest;
     }
     false
 }
 
 // Whether a literal's variable is 0 or has a row.
-pub(super) fn is_known(rows: &[u64], l: u64) -> bool
-    requires { Threes rows.now }
-    ensures { result ≡ known_in (vars rows.now) l }
+pub(super) fn is_known(rows: &[Row], l: u64) -> bool
+    ensures { result ≡ known_in (vars (flattened rows.now)) l }
 {
-    l / 2 == 0 || find(rows, l / 2) < rows.len() / 3
+    l / 2 == 0 || find(rows, l / 2).is_some()
 }
 
 // Whether the second and third number of each of these lines are known.
-pub(super) fn all_known(rows: &[u64], lines: &[u64]) -> bool
-    requires { Threes rows.now }
-    ensures { result ≡ all_known (vars rows.now) lines.now }
+pub(super) fn all_known(rows: &[Row], lines: &[Row]) -> bool
+    ensures { result ≡ list_all (line_known (vars (flattened rows.now))) lines.now }
 {
-    let mut i = 0;
-    while i + 2 < lines.len() {
-        if !is_known(rows, lines[i + 1]) || !is_known(rows, lines[i + 2]) {
-            return false;
-        }
-        i += 3;
-    }
-    true
+    lines.iter().all(|line| is_known(rows, line.second) && is_known(rows, line.third))
 }
 
 // Whether a variable is no gate's or its gate is in the mask.
-fn is_settled(gates: &[u64], mask: u64, v: u64) -> bool
-    requires { Threes gates.now × (length gates.now ≤ 192) }
-    ensures { result ≡ among (vars gates.now) mask true v }
+fn is_settled(rows: Rows, mask: u64, v: u64) -> bool
+    ensures { result ≡ among (vars (gate_rows rows.entry)) mask true v }
 {
-    let k = find(gates, v);
-    if k < gates.len() / 3 {
-        return (mask >> k) % 2 == 1;
+    match find(rows.gates(), v) {
+        Some(k) => (mask >> k) % 2 == 1,
+        None => true,
     }
-    true
 }
 
 // One round: the gates whose two variables are no gate's or in the mask.
-fn settle(gates: &[u64], mask: u64) -> u64
-    requires { Threes gates.now × (length gates.now ≤ 192) }
-    ensures { result ≡ round (gates_of gates.now) mask }
+fn settle(rows: Rows, mask: u64) -> u64
+    ensures { result ≡ round (gates_of (gate_rows rows.entry)) mask }
 {
+    let gates = rows.gates();
     let mut next = 0;
-    let mut k = 0;
-    let mut i = 0;
-    while i + 2 < gates.len() {
-        if is_settled(gates, mask, gates[i + 1] / 2) && is_settled(gates, mask, gates[i + 2] / 2) {
-            next += masks::power(k);
+    for (k, gate) in gates.iter().enumerate() {
+        if is_settled(rows, mask, gate.second / 2) && is_settled(rows, mask, gate.third / 2) {
+            next += masks::power(k as u32);
         }
-        k += 1;
-        i += 3;
     }
     next
 }
 
 // Whether no gate depends on itself: as many rounds as gates reach them all.
-pub(super) fn loop_free(gates: &[u64]) -> bool
-    requires { Threes gates.now × (length gates.now ≤ 192) }
-    ensures { LoopFree gates.now result }
+pub(super) fn loop_free(rows: Rows) -> bool
+    ensures { LoopFree (gate_rows rows.entry) result }
 {
+    let gates = rows.gates();
     let mut mask = 0;
-    let mut i = 0;
-    while i + 2 < gates.len() {
-        mask = settle(gates, mask);
-        i += 3;
+    for _ in gates {
+        mask = settle(rows, mask);
     }
-    mask == full(gates.len() as u32 / 3)
+    mask == full(gates.len() as u32)
 }
 
 // The mask of the first `count` gates.
@@ -111,9 +86,5 @@ fn full(count: u32) -> u64
     requires { count ≤ 64 }
     ensures { result ≡ 2 ^ count - 1 }
 {
-    if count < 64 {
-        masks::power(count) - 1
-    } else {
-        u64::MAX
-    }
+    masks::power(count).wrapping_sub(1)
 }

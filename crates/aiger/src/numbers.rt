@@ -1,54 +1,38 @@
 // A line of decimal numbers, read into a lent store.
-ghost use Rattle.std.specs.Prelude.{◌≡◌};
-ghost use Rattle.aiger.specs.Numbers.{is_digit};
 ghost use Rattle.aiger.specs.Inner.{Numbered};
 
 // Every number is below this.
 const LIMIT: u64 = 1 << 32;
 
-fn is_digit(c: u8) -> bool
-    ensures { result ≡ is_digit c }
-{
-    48 <= c && c <= 57
-}
-
-// The numbers of a line, one after the other; how many there are. 0 if the line is something else or has more numbers than the store has places. A
-// number that reaches the limit is wrong whatever follows, so it stays small.
-pub(super) fn numbers(line: &[u8], into: &mut [u64]) -> usize
+// The numbers of a line, one after the other, and how many there are; nothing if the line is something else or has more numbers than the store has
+// places. A number that reaches the limit is wrong whatever follows, so it stays small.
+pub(super) fn numbers(line: &[u8], into: &mut [u64]) -> Option<usize>
     ensures { Numbered line.now into.old result into.new }
 {
     let mut count = 0;
-    let mut begun = false;
-    let mut value = 0;
-    let mut j = 0;
-    while j < line.len() {
-        let c = line[j];
-        if is_digit(c) {
-            value = 10 * value + (c as u64 - 48);
+    let mut begun = None;
+    for (j, c) in line.iter().enumerate() {
+        if c.is_ascii_digit() {
+            let value = 10 * begun.unwrap_or(0) + (*c as u64 - 48);
             if LIMIT <= value {
-                return 0;
+                return None;
             }
-            begun = true;
+            begun = Some(value);
         } else {
-            if !begun {
-                return 0;
-            }
+            let value = begun?;
             if count == into.len() {
-                return 0;
+                return None;
             }
             into[count] = value;
             count += 1;
-            if c != 32 {
-                return if c == 10 && j + 1 == line.len() {
-                    count
-                } else {
-                    0
-                };
+            if *c == b'\n' && j + 1 == line.len() {
+                return Some(count);
             }
-            begun = false;
-            value = 0;
+            if *c != b' ' {
+                return None;
+            }
+            begun = None;
         }
-        j += 1;
     }
-    0
+    None
 }

@@ -1,11 +1,10 @@
-// Lines of one form, one after the other: each gives a row of three numbers, which are written into a lent store as far as it reaches. A reader keeps
-// the text and its place in it, and its place moves by a line a turn.
-ghost use Rattle.std.specs.Prelude.{[], ◌∷◌, ◌≡◌, ◌≤◌, ◌<◌, ◌^◌};
-ghost use Rattle.text.specs.Writing.{Writes};
-ghost use Rattle.aiger.specs.Inner.{count_fits, RowFits, Begins, GoesOn, Turned, Takes};
+// Lines of one form, one after the other: each gives a row of three numbers, which are written into a lent store as far as it reaches.
+ghost use Rattle.std.specs.Prelude.{◌≡◌, ◌+◌, ◌≤◌, ◌<◌, ◌^◌, length};
+ghost use Rattle.aiger.specs.Inner.{count_fits, Fine, PutsRow, ReadsLine, TakesLine, wrong_form, Begins, Takes};
 
 use super::numbers::numbers;
-use text::Reader;
+use super::table::Row;
+use base::{Fault, Refusal};
 
 // What a line has to be: how many literals it has, whether a start value may stand behind them, whether the first defines a variable, and the largest
 // literal.
@@ -17,104 +16,117 @@ pub(super) struct Form {
     pub(super) most: u64,
 }
 
-// Where a part stands: whether a line is to be taken, whether this line is missing or wrong, how many lines are left, the line and where it begins,
-// where its row is to stand, and what it has to be.
+// A line that was read: how many numbers it has, if it is numbers and not more than three, these, and where it ends.
 #[derive(Clone, Copy)]
-pub(super) struct Progress {
-    pub(super) more: bool,
-    pub(super) fault: bool,
-    pub(super) left: u64,
-    pub(super) line: usize,
-    pub(super) at: usize,
-    pub(super) row: usize,
+pub(super) struct Line {
+    pub(super) count: Option<usize>,
+    pub(super) row: Row,
+    pub(super) end: usize,
+}
+
+// So many lines of one form, the first of which has this number; and where its row is to stand.
+#[derive(Clone, Copy)]
+pub(super) struct Lines {
     pub(super) form: Form,
+    pub(super) count: u64,
+    pub(super) first: usize,
+    pub(super) row: usize,
 }
 
-// Whether a line of this form can have so many numbers.
-fn count_fits(form: Form, count: usize) -> bool
-    requires { form.width ≤ 3 }
-    ensures { result ≡ count_fits form count }
-{
-    count == form.width || (form.starts && count == form.width + 1)
-}
-
-// Whether so many numbers are of the form; those behind the last are 0, and a start value may be any.
-fn row_fits(form: Form, count: usize, a: u64, b: u64, c: u64) -> bool
-    requires { (1 ≤ form.width) × (form.width ≤ 3) }
-    ensures { RowFits form count a b c result }
-{
-    if !count_fits(form, count) {
-        return false;
+impl Form {
+    // Whether a line of this form can have so many numbers.
+    fn has(self, count: usize) -> bool
+        requires { self.width ≤ 3 }
+        ensures { result ≡ count_fits self count }
+    {
+        count == self.width || (self.starts && count == self.width + 1)
     }
-    if form.defines && (a % 2 != 0 || a == 0) {
-        return false;
-    }
-    let most = form.most;
-    a <= most && (form.width < 2 || b <= most) && (form.width < 3 || c <= most)
-}
 
-// One number at this index, if the store reaches so far.
-pub(super) fn put(store: &mut [u64], at: usize, x: u64) -> usize
-    requires { at < 2 ^ 63 }
-    ensures { Writes at (x ∷ []) store.old result store.new }
-{
-    if at < store.len() {
-        store[at] = x;
-    }
-    at + 1
-}
-
-// A row of three.
-fn put_row(store: &mut [u64], at: usize, a: u64, b: u64, c: u64) -> usize
-    requires { at < 2 ^ 62 }
-    ensures { Writes at (a ∷ (b ∷ (c ∷ []))) store.old result store.new }
-{
-    let next = put(store, at, a);
-    let next = put(store, next, b);
-    put(store, next, c)
-}
-
-// The line from this index to its end, taken; where the text has ended it is empty, and so is wrong.
-fn take_turn(text: &[u8], at: usize, end: usize, s: Progress, rows: &mut [u64]) -> Progress
-    requires { GoesOn text.now at end s }
-    ensures { Turned text.now end s rows.old result rows.new }
-{
-    let form = s.form;
-    let mut row = [0u64; 3];
-    let count = numbers(&text[at..end], &mut row);
-    if !row_fits(form, count, row[0], row[1], row[2]) {
-        return Progress {
-            more: false,
-            fault: true,
-            left: s.left,
-            line: s.line,
-            at,
-            row: s.row,
-            form,
+    // Whether a line is of this form. Numbers behind its last are 0, and a start value may be any.
+    fn takes(self, line: Line) -> bool
+        requires { Fine self }
+        ensures { TakesLine self line result }
+    {
+        let Some(count) = line.count else {
+            return false;
         };
-    }
-    let next = put_row(rows, s.row, row[0], row[1], row[2]);
-    Progress {
-        more: 1 < s.left,
-        fault: false,
-        left: s.left - 1,
-        line: s.line + 1,
-        at: end,
-        row: next,
-        form,
+        if !self.has(count) {
+            return false;
+        }
+        let row = line.row;
+        if self.defines && (row.literal % 2 != 0 || row.literal == 0) {
+            return false;
+        }
+        let most = self.most;
+        row.literal <= most
+            && (self.width < 2 || row.second <= most)
+            && (self.width < 3 || row.third <= most)
     }
 }
 
-// All lines of a part, from where it stands.
-pub(super) fn take_part(text: &[u8], mut s: Progress, rows: &mut [u64]) -> Progress
-    requires { Begins text.now s }
-    ensures { Takes text.now s rows.old result rows.new }
-{
-    let mut r = Reader { text, at: s.at };
-    while s.more {
-        let at = r.at;
-        r = text::next_line(r);
-        s = take_turn(r.text, at, r.at, s, rows);
+impl Lines {
+    // The number of the line behind the last.
+    pub(super) fn behind(self) -> usize
+        requires { self.first + self.count < 2 ^ 62 }
+        ensures { result ≡ self.first + self.count }
+    {
+        self.first + self.count as usize
     }
-    s
+}
+
+// A line that is missing or wrong.
+pub(super) fn wrong_form(line: usize) -> Fault
+    ensures { result ≡ wrong_form line }
+{
+    Fault {
+        refusal: Refusal::Form,
+        line,
+    }
+}
+
+// A row at this index, if the store reaches so far.
+fn put_row(rows: &mut [Row], at: usize, row: Row)
+    ensures { PutsRow at row rows.old rows.new }
+{
+    if at < rows.len() {
+        rows[at] = row;
+    }
+}
+
+// The line at this index; where the text has ended it is empty, and so no numbers.
+pub(super) fn read_line(text: &[u8], at: usize) -> Line
+    requires { at ≤ length text.now }
+    ensures { ReadsLine text.now at result }
+{
+    let end = at + text::line_length(text, at);
+    let mut found = [0u64; 3];
+    let count = numbers(&text[at..end], &mut found);
+    let row = Row {
+        literal: found[0],
+        second: found[1],
+        third: found[2],
+    };
+    Line { count, row, end }
+}
+
+// All these lines from this index on: where they end, or the first that is missing or wrong.
+pub(super) fn take_part(
+    text: &[u8],
+    from: usize,
+    lines: Lines,
+    rows: &mut [Row],
+) -> Result<usize, Fault>
+    requires { Begins text.now from lines }
+    ensures { Takes text.now lines from rows.old result rows.new }
+{
+    let mut at = from;
+    for k in 0..lines.count {
+        let line = read_line(text, at);
+        if !lines.form.takes(line) {
+            return Err(wrong_form(lines.first + k as usize));
+        }
+        put_row(rows, lines.row + k as usize, line.row);
+        at = line.end;
+    }
+    Ok(at)
 }

@@ -4,10 +4,19 @@
 ghost use Rattle.std.specs.Prelude.{◌≡◌, ◌≤◌, length, drop};
 ghost use Rattle.text.specs.Lines.{lines};
 ghost use Rattle.aiger.specs.Text.{most_counts, parts_of, behind_header, tells};
-ghost use Rattle.aiger.specs.Inner.{HeadOf, begun, fault_at, Small, most_rows, ReadAs};
+ghost use Rattle.aiger.specs.Inner.{newer_in, HeadOf, Small, ReadAs};
 
 use super::numbers::numbers;
-use super::part::{Form, Progress, take_part};
+use super::part::{Form, Lines, take_part, wrong_form};
+use super::table::{ROWS, Row};
+use base::{Fault, Refusal};
+
+// The first edition takes the fewer counts, and no start values.
+#[derive(Clone, Copy)]
+pub(super) enum Edition {
+    First,
+    Newer,
+}
 
 // The counts of the header, and whether it was read in the newer edition.
 #[derive(Clone, Copy)]
@@ -24,47 +33,44 @@ pub(super) struct Header {
     pub(super) fairness: u64,
 }
 
-// What the first line says.
-#[derive(Clone, Copy)]
-enum Head {
-    Right(Header),
-    Wrong,
-}
-
-// A refusal for the form and its line, or 0; then the counts, and where the latches and the lines of one literal begin.
+// The counts, and where the latches and the lines of one literal begin.
 #[derive(Clone, Copy)]
 pub(super) struct Reading {
-    pub(super) number: u32,
-    pub(super) line: usize,
     pub(super) header: Header,
     pub(super) latches: usize,
     pub(super) singles: usize,
 }
 
-// The most counts of a header.
-fn most_counts(newer: bool) -> usize
-    ensures { result ≡ most_counts newer }
-{
-    if newer { 9 } else { 5 }
+impl Edition {
+    fn is_newer(self) -> bool
+        ensures { result ≡ newer_in self }
+    {
+        matches!(self, Edition::Newer)
+    }
+
+    // The most counts of a header.
+    fn most_counts(self) -> usize
+        ensures { result ≡ most_counts (newer_in self) }
+    {
+        match self {
+            Edition::First => 5,
+            Edition::Newer => 9,
+        }
+    }
 }
 
 // The first line.
-fn head_of(newer: bool, line: &[u8]) -> Head
-    ensures { HeadOf newer line.now result }
+fn head_of(edition: Edition, line: &[u8]) -> Option<Header>
+    ensures { HeadOf (newer_in edition) line.now result }
 {
-    if line.len() < 4 {
-        return Head::Wrong;
-    }
-    if line[0] != 97 || line[1] != 97 || line[2] != 103 || line[3] != 32 {
-        return Head::Wrong;
-    }
+    let behind = line.strip_prefix(b"aag ")?;
     let mut counts = [0u64; 9];
-    let count = numbers(&line[4..], &mut counts);
-    if count < 5 || most_counts(newer) < count {
-        return Head::Wrong;
+    let count = numbers(behind, &mut counts)?;
+    if count < 5 || edition.most_counts() < count {
+        return None;
     }
-    Head::Right(Header {
-        newer,
+    Some(Header {
+        newer: edition.is_newer(),
         m: counts[0],
         inputs: counts[1],
         latches: counts[2],
@@ -77,132 +83,81 @@ fn head_of(newer: bool, line: &[u8]) -> Head
     })
 }
 
-// A part begins at this line and index, and its first row is to stand at `row`.
-fn begin(form: Form, count: u64, line: usize, at: usize, row: usize) -> Progress
-    ensures { result ≡ begun form count line at row }
-{
-    Progress {
-        more: 0 < count,
-        fault: false,
-        left: count,
-        line,
-        at,
-        row,
-        form,
-    }
-}
-
-// What is wrong with the form: 20 or 27.
-fn faulty(header: Header, number: u32, line: usize) -> Reading
-    ensures { result ≡ fault_at header number line }
-{
-    Reading {
-        number,
-        line,
-        header,
-        latches: 0,
-        singles: 0,
-    }
-}
-
 // The parts behind the header, which ends at this index.
-fn read_parts(text: &[u8], at: usize, h: Header, rows: &mut [u64]) -> Reading
-    requires { Small h × (at ≤ length text.now) × (length rows.old ≤ most_rows) }
+fn read_parts(text: &[u8], at: usize, h: Header, rows: &mut [Row; ROWS]) -> Result<Reading, Fault>
+    requires { Small h × (at ≤ length text.now) }
     ensures { ReadAs text.now (parts_of h (lines (drop at text.now))) rows.old result rows.new }
 {
-    let most = 2 * h.m + 1;
-    let latches = 3 * h.latches as usize;
     let form = Form {
         width: 1,
         starts: false,
         defines: true,
-        most,
+        most: 2 * h.m + 1,
     };
-    let s = take_part(text, begin(form, h.inputs, 2, at, latches), rows);
-    if s.fault {
-        return faulty(h, 20, s.line);
-    }
-    let latches_at = s.at;
-    let form = Form {
-        width: 2,
-        starts: h.newer,
-        defines: true,
-        most,
+    let inputs = Lines {
+        form,
+        count: h.inputs,
+        first: 2,
+        row: h.latches as usize,
     };
-    let s = take_part(text, begin(form, h.latches, s.line, s.at, 0), rows);
-    if s.fault {
-        return faulty(h, 20, s.line);
-    }
-    let singles_at = s.at;
-    let singles = h.outputs + h.bads + h.constraints;
-    let form = Form {
-        width: 1,
-        starts: false,
-        defines: false,
-        most,
+    let latches_at = take_part(text, at, inputs, rows)?;
+    let latches = Lines {
+        form: Form {
+            width: 2,
+            starts: h.newer,
+            ..form
+        },
+        count: h.latches,
+        first: inputs.behind(),
+        row: 0,
     };
-    let none = rows.len();
-    let s = take_part(text, begin(form, singles, s.line, s.at, none), rows);
-    if s.fault {
-        return faulty(h, 20, s.line);
-    }
-    let form = Form {
-        width: 3,
-        starts: false,
-        defines: true,
-        most,
+    let singles_at = take_part(text, latches_at, latches, rows)?;
+    // Their rows would stand behind the store, and so are not kept.
+    let singles = Lines {
+        form: Form {
+            defines: false,
+            ..form
+        },
+        count: h.outputs + h.bads + h.constraints,
+        first: latches.behind(),
+        row: rows.len(),
     };
-    let s = take_part(
-        text,
-        begin(form, h.gates, s.line, s.at, latches + 3 * h.inputs as usize),
-        rows,
-    );
-    if s.fault {
-        return faulty(h, 20, s.line);
-    }
-    Reading {
-        number: 0,
-        line: 0,
+    let gates_at = take_part(text, singles_at, singles, rows)?;
+    let gates = Lines {
+        form: Form { width: 3, ..form },
+        count: h.gates,
+        first: singles.behind(),
+        row: (h.latches + h.inputs) as usize,
+    };
+    take_part(text, gates_at, gates, rows)?;
+    Ok(Reading {
         header: h,
         latches: latches_at,
         singles: singles_at,
-    }
+    })
 }
 
 // The lines behind a header that asks for nothing but safety.
-fn read_behind(text: &[u8], at: usize, h: Header, rows: &mut [u64]) -> Reading
-    requires { Small h × (at ≤ length text.now) × (length rows.old ≤ most_rows) }
+fn read_behind(text: &[u8], at: usize, h: Header, rows: &mut [Row; ROWS]) -> Result<Reading, Fault>
+    requires { Small h × (at ≤ length text.now) }
     ensures { ReadAs text.now (behind_header h (lines (drop at text.now))) rows.old result rows.new }
 {
     if h.justice != 0 || h.fairness != 0 {
-        return faulty(h, 27, 1);
+        return Err(Fault {
+            refusal: Refusal::Justice,
+            line: 1,
+        });
     }
     read_parts(text, at, h, rows)
 }
 
 // The text: its first line at fault, or what it says.
-pub(super) fn read(newer: bool, text: &[u8], rows: &mut [u64]) -> Reading
-    requires { length rows.old ≤ most_rows }
-    ensures { ReadAs text.now (tells newer text.now) rows.old result rows.new }
+pub(super) fn read(edition: Edition, text: &[u8], rows: &mut [Row; ROWS]) -> Result<Reading, Fault>
+    ensures { ReadAs text.now (tells (newer_in edition) text.now) rows.old result rows.new }
 {
     let end = text::line_length(text, 0);
-    match head_of(newer, &text[..end]) {
-        Head::Right(h) => read_behind(text, end, h, rows),
-        Head::Wrong => faulty(
-            Header {
-                newer,
-                m: 0,
-                inputs: 0,
-                latches: 0,
-                outputs: 0,
-                gates: 0,
-                bads: 0,
-                constraints: 0,
-                justice: 0,
-                fairness: 0,
-            },
-            20,
-            1,
-        ),
-    }
+    let Some(h) = head_of(edition, &text[..end]) else {
+        return Err(wrong_form(1));
+    };
+    read_behind(text, end, h, rows)
 }

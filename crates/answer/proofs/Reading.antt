@@ -10,8 +10,7 @@ use Rattle.stores.proofs.Over.{over_front, over_within}
 use Rattle.system.specs.System.{System, system_of}
 use Rattle.house.specs.File.{Reading, Said, file, refused, said}
 use Rattle.stores.specs.Lists.{Lists, lists, filled}
-use Rattle.house.specs.Promise.{rooms_of, Result, result_of, Reads}
-use Rattle.house.specs.declared.House.{House}
+use Rattle.house.specs.Promise.{rooms_of, Report, Result, result_of, Reads}
 use Rattle.house.proofs.Limits.{Limited, said_limited}
 use Rattle.answer.specs.Answer.{refusal_line, clause_rooms, system_in, system_lines}
 use Rattle.answer.specs.Promise.{Answers}
@@ -22,15 +21,15 @@ pub rooms_of_zeros : rooms_of (lists (replicate 4096 0) (replicate 4096 0) (repl
 rooms_of_zeros = rw length-replicate
 
 -- what was read, as code has it: a front of each store
-pub record Fronts (h : House) (after : Lists) : Type 0 where
+pub record Fronts (h : Report) (after : Lists) : Type 0 where
   pub start : h.start ≤ length after.start
   pub step : h.step ≤ length after.step
   pub bad : h.bad ≤ length after.bad
 
-abbrev pub system_read : House → Lists → System
+abbrev pub system_read : Report → Lists → System
 system_read h l = system_of h.n 0 (take h.start l.start) (take h.step l.step) (take h.bad l.bad)
 
-module _ (text : List ℕ) (lent : Lists) (h : House) (after : Lists) (reads : Reads text lent h after) where
+module _ (text : List ℕ) (lent : Lists) (h : Report) (after : Lists) (reads : Reads text lent h after) where
   abbrev Whole : Result
   Whole = record { house = h; after = after }
 

@@ -3,12 +3,16 @@
 
 ghost use Rattle.std.specs.Prelude.{[], ◌∷◌, ◌≡◌, ◌/◌, ◌%◌, ◌^◌, ◌≤◌, ◌<◌, length};
 ghost use Rattle.text.specs.Writing.{Writes};
-ghost use Rattle.system.specs.System.{system_of};
+ghost use Rattle.system.specs.Lent.{system_in};
 ghost use Rattle.answer.specs.Output.{letter, digits, line_of};
 ghost use Rattle.answer.specs.Answer.{state_lines, verdict_lines, gave_up_line, refusal_line, system_lines};
 ghost use Rattle.answer.specs.Promise.{outcome_lines, Answers};
 
+use house::House;
+use system::System;
+
 // The byte of a digit.
+// Stays: the answer is capital digits in a lent buffer, byte by byte (`line_of`), and of the formats of std that for capital digits states no output.
 fn letter_of(d: u32) -> u8
     requires { d < 16 }
     ensures { result ≡ letter d }
@@ -44,11 +48,9 @@ fn put_line(out: &mut [u8], at: usize, frame: &[u8]) -> usize
 {
     let mut next = at;
     let mut sum: u32 = 0;
-    let mut j = 0;
-    while j < frame.len() {
-        next = put_digits(out, next, frame[j]);
-        sum += frame[j] as u32;
-        j += 1;
+    for byte in frame {
+        next = put_digits(out, next, *byte);
+        sum += *byte as u32;
     }
     let last = (256 - sum % 256) % 256;
     let next = put_digits(out, next, last as u8);
@@ -69,18 +71,15 @@ fn put_states(out: &mut [u8], at: usize, kind: u8, states: &[u64]) -> usize
     ensures { Writes at (state_lines kind states.now) out.old result out.new }
 {
     let mut next = at;
-    let mut j = 0;
-    while j < states.len() {
-        let s = states[j];
+    for s in states {
         let frame = [
             kind,
-            byte_of(s, 24),
-            byte_of(s, 16),
-            byte_of(s, 8),
-            byte_of(s, 0),
+            byte_of(*s, 24),
+            byte_of(*s, 16),
+            byte_of(*s, 8),
+            byte_of(*s, 0),
         ];
         next = put_line(out, next, &frame);
-        j += 1;
     }
     next
 }
@@ -124,6 +123,7 @@ fn put_gave_up(out: &mut [u8], number: u32, questions: u32) -> usize
 }
 
 // A refusal and its line.
+// Stays: it takes every number, as before, and a `Refusal` would ask more of its callers.
 pub fn put_refusal(out: &mut [u8], number: u32, line: usize) -> usize
     ensures { Writes 0 (refusal_line number line) out.old result out.new }
 {
@@ -169,18 +169,14 @@ fn put_outcome<'a>(
 const MASKS: usize = 4 * base::MOST_CLAUSE_LINES as usize;
 
 // The search with the room and the allowance of `scan`, and the lines of its outcome.
-pub fn solve(n: u32, w: u32, start: &[u64], step: &[u64], bad: &[u64], out: &mut [u8]) -> usize
-    ensures { Writes 0 (system_lines (system_of n w start.now step.now bad.now)) out.old result out.new }
+pub fn solve(system: System, out: &mut [u8]) -> usize
+    ensures { Writes 0 (system_lines (system_in system.entry)) out.old result out.new }
 {
     let mut states = [0u64; base::SCAN_ROOM];
     let mut levels = [0u32; base::SCAN_ROOM];
     let mut path = [0u64; base::SCAN_ROOM + 2];
     let outcome = search::search(
-        n,
-        w,
-        start,
-        step,
-        bad,
+        system,
         &mut states,
         &mut levels,
         &mut path,
@@ -196,13 +192,23 @@ pub fn answer(text: &[u8], out: &mut [u8]) -> usize
     let mut start = [0u64; MASKS];
     let mut step = [0u64; MASKS];
     let mut bad = [0u64; MASKS];
-    let house = house::read(text, &mut start, &mut step, &mut bad);
-    let number = house.number;
-    if number != 0 {
-        return put_refusal(out, number, house.line);
-    }
-    let i = house.start;
-    let t = house.step;
-    let b = house.bad;
-    solve(house.n, 0, &start[..i], &step[..t], &bad[..b], out)
+    let House {
+        n,
+        start: i,
+        step: t,
+        bad: b,
+    } = match house::read(text, &mut start, &mut step, &mut bad) {
+        Ok(house) => house,
+        Err(fault) => {
+            return put_refusal(out, fault.refusal.into(), fault.line);
+        }
+    };
+    let system = System {
+        n,
+        w: 0,
+        start: &start[..i],
+        step: &step[..t],
+        bad: &bad[..b],
+    };
+    solve(system, out)
 }

@@ -5,6 +5,9 @@ use mathlib.Core.Bool.{Bool, true, false}
 use mathlib.Core.Path.{◌≡◌, refl}
 use native.Mathlib.Omega.{arith}
 use Rattle.base.specs.Refusals.{◌if◌, ◌else◌}
+use Rattle.base.specs.Numbers.{number_of}
+use Rattle.base.specs.declared.Refusal.{Refusal}
+use Rattle.base.specs.declared.Refusal.TheVariants.{Size, Masks, Bits, Stores, Evidence, Digits, Sum, Kind, Length, Room, Count, Form, TooFew, Latches, Wires, Variables, Loop, Watched, Justice, StartValue, Given, Store, ClauseStore}
 
 -- a refusal as code has it, a number that is not 0
 pub else_first : (r a b : ℕ) → r ≡ a → (r ≡ 0 → ⊥) → r ≡ a else b
@@ -30,3 +33,29 @@ else_most k (suc a) b h l = h
 pub if_most : (k : ℕ) (t : Bool) → (k if t) ≤ k
 if_most k true = omega arith
 if_most k false = omega arith
+
+-- the number of a refusal is none that says there is no refusal
+pub number_not_none : (r : Refusal) → number_of r ≡ 0 → ⊥
+number_not_none Size e = absurd (omega arith)
+number_not_none Masks e = absurd (omega arith)
+number_not_none Bits e = absurd (omega arith)
+number_not_none Stores e = absurd (omega arith)
+number_not_none Evidence e = absurd (omega arith)
+number_not_none Digits e = absurd (omega arith)
+number_not_none Sum e = absurd (omega arith)
+number_not_none Kind e = absurd (omega arith)
+number_not_none Length e = absurd (omega arith)
+number_not_none Room e = absurd (omega arith)
+number_not_none Count e = absurd (omega arith)
+number_not_none Form e = absurd (omega arith)
+number_not_none TooFew e = absurd (omega arith)
+number_not_none Latches e = absurd (omega arith)
+number_not_none Wires e = absurd (omega arith)
+number_not_none Variables e = absurd (omega arith)
+number_not_none Loop e = absurd (omega arith)
+number_not_none Watched e = absurd (omega arith)
+number_not_none Justice e = absurd (omega arith)
+number_not_none StartValue e = absurd (omega arith)
+number_not_none Given e = absurd (omega arith)
+number_not_none Store e = absurd (omega arith)
+number_not_none ClauseStore e = absurd (omega arith)

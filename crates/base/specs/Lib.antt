@@ -1,2 +1,3 @@
 -- The root of the definitions.
 pub mod Refusals
+pub mod Numbers

@@ -7,6 +7,7 @@ ghost use Rattle.call.specs.Promise.{stores, number_of, questions_of, HandedBack
 
 // How a call ended: safe or unsafe, with the number of evidence states; given up, with 5, 6 or 14; or refused, with 1 to 4. What was searched has the
 // count of questions asked behind it.
+// Stays: the number of a refusal, or of giving up, is any, since `number` answers for every outcome, and a narrower type would ask more of its callers.
 #[derive(Clone, Copy)]
 pub enum Outcome {
     Safe(usize, u32),
@@ -40,6 +41,7 @@ pub fn questions(outcome: Outcome) -> u32
 }
 
 // Refusal 4.
+// Stays: states and levels are two slices, since the scope lends two stores; this is the refusal of two that do not fit.
 pub fn wrong_stores(states: &[u64], levels: &[u32], path: &[u64]) -> bool
     ensures { result ≡ wrong_stores (stores states.now levels.now path.now) }
 {

@@ -14,10 +14,9 @@ use Rattle.answer.specs.Answer.{refusal_line, system_lines}
 use Rattle.circuit.specs.Circuit.{Circuit}
 use Rattle.circuit.specs.Import.{imported}
 use Rattle.aiger.specs.Text.{newer_edition, malformed, tells}
-use Rattle.aiger.specs.Promise.{Result, refused_at, line_for, entered, imported_as, result_of, system_in, Imports}
+use Rattle.aiger.specs.Promise.{Result, Report, refused_at, line_for, entered, imported_as, result_of, system_in, Imports}
 use Rattle.aiger.proofs.Cut.{line_most}
 use Rattle.aiger.proofs.Meaning.{entered_system}
-use Rattle.aiger.specs.declared.Imported.{Imported}
 use Rattle.circuit_answer.specs.Answer.{refusal_in}
 use Rattle.circuit_answer.specs.Promise.{Says, Answers}
 use Rattle.circuit_answer.proofs.Meaning.{by_told, answered_circuit, answered_refused, answered_malformed, answers}
@@ -32,12 +31,12 @@ pub zero_rooms : Rooms (lists (replicate 128 0) (replicate 16384 0) (replicate 1
 zero_rooms = record { start = length-replicate {A = ℕ} 128 0; step = length-replicate {A = ℕ} 16384 0; bad = length-replicate {A = ℕ} 16384 0 }
 
 -- what was read, as code has it: a front of each store
-pub record Fronts (i : Imported) (after : Lists) : Type 0 where
+pub record Fronts (i : Report) (after : Lists) : Type 0 where
   pub start : i.start ≤ length after.start
   pub step : i.step ≤ length after.step
   pub bad : i.bad ≤ length after.bad
 
-module _ (text : List ℕ) (lent : Lists) (i : Imported) (after : Lists) (imports : Imports newer_edition text lent i after) (rooms : Rooms lent) where
+module _ (text : List ℕ) (lent : Lists) (i : Report) (after : Lists) (imports : Imports newer_edition text lent i after) (rooms : Rooms lent) where
   abbrev Whole : Result
   Whole = record { import = i; after = after }
 

@@ -3,6 +3,9 @@
 
 ghost use Rattle.circuit_answer.specs.Promise.{Answers};
 
+use aiger::Imported;
+use system::System;
+
 // Masks of clause stores that hold the lists of every circuit whose system is well-formed: 32 latches, and 4,096 clauses.
 const START: usize = 4 * 32;
 
@@ -17,20 +20,24 @@ pub fn answer(text: &[u8], out: &mut [u8]) -> usize
     let mut start = [0u64; START];
     let mut step = [0u64; STEP];
     let mut bad = [0u64; BAD];
-    let circuit = aiger::import_newer(text, &mut start, &mut step, &mut bad);
-    let number = circuit.number;
-    if number != 0 {
-        return answer::put_refusal(out, number, circuit.line);
-    }
-    let i = circuit.start;
-    let t = circuit.step;
-    let b = circuit.bad;
-    answer::solve(
-        circuit.n,
-        circuit.w,
-        &start[..i],
-        &step[..t],
-        &bad[..b],
-        out,
-    )
+    let Imported {
+        n,
+        w,
+        start: i,
+        step: t,
+        bad: b,
+    } = match aiger::import_newer(text, &mut start, &mut step, &mut bad) {
+        Ok(circuit) => circuit,
+        Err(fault) => {
+            return answer::put_refusal(out, fault.refusal.into(), fault.line);
+        }
+    };
+    let system = System {
+        n,
+        w,
+        start: &start[..i],
+        step: &step[..t],
+        bad: &bad[..b],
+    };
+    answer::solve(system, out)
 }

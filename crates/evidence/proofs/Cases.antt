@@ -7,10 +7,8 @@ use mathlib.Core.Option.{none, some}
 use mathlib.Core.Path.{◌≡◌, sym, ◌∙◌}
 use lib.ListN.{length, get_or}
 use Rattle.system.specs.System.{System, list_true, some_true, pair, model}
-use Rattle.evidence.specs.Check.{each, refused, outside, closed_from, leads_on, excluded_states, path_of}
+use Rattle.evidence.specs.Check.{Checked, Yes, No, each, refused, outside, closed_from, leads_on, excluded_states, path_of}
 use Rattle.evidence.specs.Promise.{ExcludedChecked, PathChecked}
-use Rattle.evidence.specs.declared.Checked.{Checked}
-use Rattle.evidence.specs.declared.Checked.TheVariants.{Yes, No}
 use Rattle.evidence.proofs.Excluding.{start_listed, bad_unlisted, then_closed}
 use Rattle.evidence.proofs.Paths.{path_empty, path_no_start, path_nowhere, path_leads}
 use Rattle.evidence.proofs.Judging.{checked_judges, excluded_promised, path_promised}

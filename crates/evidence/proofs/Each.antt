@@ -36,7 +36,7 @@ module _ (p : ℕ → Bool) (l : List ℕ) where
     each_ends h = rw (w.1, drop_of_length-le l h)
 
 -- a list whose first one passes
-each_rest : (p : ℕ → Bool) (x : ℕ) (xs : List ℕ) → each p (x ∷ xs) ≡ true → (p x ≡ true) × (each p xs ≡ true)
+pub each_rest : (p : ℕ → Bool) (x : ℕ) (xs : List ℕ) → each p (x ∷ xs) ≡ true → (p x ≡ true) × (each p xs ≡ true)
 unfolding each
 each_rest p x xs e =
     test (p x)

@@ -17,9 +17,7 @@ use Rattle.base.proofs.Tests.{test, clash, both, first_false}
 use Rattle.ic3.specs.Model.{Model}
 use Rattle.ic3.specs.Demands.{listed, Excludes}
 use Rattle.ic3.proofs.Least.{least_answers}
-use Rattle.evidence.specs.Check.{each, outside, closed_from, excluded_states, questions_of}
-use Rattle.evidence.specs.declared.Checked.{Checked}
-use Rattle.evidence.specs.declared.Checked.TheVariants.{Yes, No, Refused}
+use Rattle.evidence.specs.Check.{Checked, Yes, No, Refused, each, outside, closed_from, excluded_states, questions_of}
 use Rattle.evidence.proofs.Each.{each_listed, listed_each}
 
 -- a check decides R: yes with R, no without it, and no refusal

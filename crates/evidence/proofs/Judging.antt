@@ -12,7 +12,9 @@ use lib.Dec.{ltb}
 use lib.ListN.{length}
 use lib.Pow.{pow_mono}
 use Rattle.base.specs.Refusals.{◌if◌}
-use Rattle.base.proofs.Refusals.{else_first, else_none, if_none}
+use Rattle.base.specs.Numbers.{number_of}
+use Rattle.base.specs.declared.Refusal.{Refusal}
+use Rattle.base.proofs.Refusals.{else_first, else_none, if_none, number_not_none}
 use Rattle.ic3.specs.Model.{Model}
 use Rattle.ic3.specs.Demands.{IsPath, listed, Excludes}
 use Rattle.ic3.proofs.Frames.{excludes_never, path_hit}
@@ -21,10 +23,8 @@ use Rattle.system.proofs.Refusals.{size_right, refusal_none}
 use Rattle.call.specs.Call.{Stores, Said, says_safe, says_unsafe, called}
 use Rattle.call.specs.Promise.{Right}
 use Rattle.call.proofs.Call.{Speaks, called_right, called_accepts}
-use Rattle.evidence.specs.Check.{each, refused, excluded_states, path_of, checked, questions_of}
+use Rattle.evidence.specs.Check.{Checked, Yes, No, Refused, each, refused, excluded_states, path_of, checked, questions_of}
 use Rattle.evidence.specs.Promise.{Judged, ExcludedChecked, PathChecked}
-use Rattle.evidence.specs.declared.Checked.{Checked}
-use Rattle.evidence.specs.declared.Checked.TheVariants.{Yes, No, Refused}
 use Rattle.evidence.proofs.Each.{each_listed, listed_each}
 use Rattle.evidence.proofs.Excluding.{Decides, excluded_decides, excluded_few}
 use Rattle.evidence.proofs.Paths.{path_within, path_decides, path_none}
@@ -32,9 +32,9 @@ use Rattle.evidence.proofs.Paths.{path_within, path_decides, path_none}
 module _ (y : System) (xs : List ℕ) where
   -- ---- refusals
   -- the system's own come first
-  pub number_refused : (r : ℕ) → r ≡ refusal_of y → (r ≡ 0 → ⊥) → r ≡ refused y xs
+  pub number_refused : (f : Refusal) → number_of f ≡ refusal_of y → number_of f ≡ refused y xs
   unfolding refused
-  number_refused r = else_first r (refusal_of y) _
+  number_refused f e = else_first (number_of f) (refusal_of y) _ e (number_not_none f)
 
   pub refused_states : (t : Bool) → refusal_of y ≡ 0 → each (λ x. ltb x (2 ^ y.n)) xs ≡ t → refused y xs ≡ 7 if not t
   unfolding refused
@@ -83,10 +83,13 @@ module _ (y : System) (xs : List ℕ) where
     unfolding checked
     checked_judges e = rw (e, checked)
 
-    -- a refusal as the code has it, a number that is not 0
-    pub number_checked : (r : ℕ) → r ≡ refused y xs → (r ≡ 0 → ⊥) → Refused r ≡ checked judge y xs
-    number_checked zero e f = absurd (f refl)
-    number_checked (suc r) e f = sym (checked_refused r (sym e))
+    -- a refusal as the code has it
+    pub number_checked : (f : Refusal) → number_of f ≡ refused y xs → Refused (number_of f) ≡ checked judge y xs
+    number_checked f e = by (number_of f) (number_not_none f) e
+      where
+        by : (r : ℕ) → (r ≡ 0 → ⊥) → r ≡ refused y xs → Refused r ≡ checked judge y xs
+        by zero g e = absurd (g refl)
+        by (suc r) g e = sym (checked_refused r (sym e))
 
     module _ (R : Type 0) (verdict : Said) (decides : Within → Decides (judge (model y) xs) R) (own : Own verdict R) where
       decided : refused y xs ≡ 0 → (c : Checked) → Decides c R → Judged y xs R verdict c

@@ -1,24 +1,21 @@
 -- A path, judged: the tests that the check makes are those of demand 2, one by one. That each of its states is below the size comes from refusal 7.
 -- Assumes nothing.
-use Prim.Native.Nat.{ℕ, suc, ◌+◌, ◌%◌, ◌^◌, ◌<◌, ◌≤◌}
+use Prim.Native.Nat.{ℕ, ◌+◌, ◌-◌, ◌%◌, ◌^◌, ◌<◌}
 use mathlib.Core.Bool.{Bool, true, false}
 use mathlib.Core.List.{List, [], ◌∷◌}
-use mathlib.Core.Path.{◌≡◌, refl, ap}
+use mathlib.Core.Path.{◌≡◌, refl, ap, ◌∙◌}
 use native.Mathlib.Nat.{mod-eq_of_lt}
-use native.Mathlib.Numerals.{add-one}
 use native.Mathlib.Omega.{arith}
 use borrow.Author.Tests.{eqb-true, eq-eqb}
 use lib.Dec.{eqb, ltb}
-use lib.ListN.{length, get_or, drop, drop_of_length-le}
-use lib.Seq.{drop-cons}
+use lib.ListN.{length, get_or, take, drop, length-drop}
 use Rattle.base.proofs.Tests.{test, clash}
-use Rattle.base.proofs.Lists.{next_two}
+use Rattle.base.proofs.Lists.{rest_of}
 use Rattle.ic3.specs.Model.{Model}
 use Rattle.ic3.specs.Demands.{Leads, IsPath, listed}
 use Rattle.system.specs.System.{some_true, pair}
-use Rattle.evidence.specs.Check.{each, leads_on, path_of, questions_of}
-use Rattle.evidence.specs.declared.Checked.TheVariants.{Yes, No}
-use Rattle.evidence.proofs.Each.{below_at}
+use Rattle.evidence.specs.Check.{Yes, No, each, leads_on, path_of, questions_of}
+use Rattle.evidence.proofs.Each.{each_rest, below_at}
 use Rattle.evidence.proofs.Excluding.{Decides}
 
 module _ (M : Model) where
@@ -104,21 +101,6 @@ module _ (M : Model) where
   path_leads [] h e f = absurd (omega arith)
   path_leads (s ∷ xs) h e f = leads M s xs e f
 
--- as a walk tests: from index i on, a step that is none decides, a step is passed, and the last state is tested
-module _ (step : ℕ → ℕ → Bool) (bad : ℕ → Bool) (l : List ℕ) (i : ℕ) where
-  pub leads_stops : i + 1 < length l → step (get_or l i 0) (get_or l (i + 1) 0) ≡ false → leads_on step bad (drop i l) ≡ false
-  unfolding leads_on
-  leads_stops h e = rw (next_two l i h) (rw (e, leads_on))
-
-  pub leads_passes : i + 1 < length l → step (get_or l i 0) (get_or l (i + 1) 0) ≡ true
-      → leads_on step bad (drop i l) ≡ leads_on step bad (drop (i + 1) l)
-  unfolding leads_on
-  leads_passes h e = rw (next_two l i h, drop-cons l (i + 1) 0 h, ← add-one (i + 1)) (rw (e, leads_on))
-
-  pub leads_ends : i < length l → length l ≤ i + 1 → leads_on step bad (drop i l) ≡ bad (get_or l i 0)
-  unfolding leads_on
-  leads_ends h k = rw (drop-cons l i 0 h, drop_of_length-le l {i = suc i} (omega arith))
-
 -- as code asks of a path whose states are below 2^32: their low halves are the states, and a pair with a later half of 0 is the state itself
 module _ (w : ℕ) (list l : List ℕ) (small : each (λ x. ltb x (2 ^ 32)) l ≡ true) (i : ℕ) where
   pub step_asked : i + 1 < length l
@@ -128,3 +110,51 @@ module _ (w : ℕ) (list l : List ℕ) (small : each (λ x. ltb x (2 ^ 32)) l �
   pub bad_asked : i < length l → some_true w list (pair (get_or l i 0 % 2 ^ 32) (0 % 2 ^ 32)) ≡ some_true w list (get_or l i 0)
   unfolding pair
   bad_asked h = ap (some_true w list) (omega (arith, mod-eq_of_lt (below_at (2 ^ 32) l i h small)))
+
+-- as a walk tests: what is left of a path leads where the whole path leads
+module _ (step : ℕ → ℕ → Bool) (bad : ℕ → Bool) (path : List ℕ) where
+  pub record Left (left : List ℕ) : Type 0 where
+    pub some : 0 < length left
+    pub small : each (λ x. ltb x (2 ^ 32)) left ≡ true
+    pub leads : leads_on step bad path ≡ leads_on step bad left
+
+  module _ (l : List ℕ) (w : Left l) where
+    -- a step that is none decides
+    pub leads_stops : 1 < length l → step (get_or l 0 0) (get_or l 1 0) ≡ false → leads_on step bad path ≡ false
+    unfolding leads_on
+    leads_stops h e = w.leads ∙ stops l h e
+      where
+        stops : (l : List ℕ) → 1 < length l → step (get_or l 0 0) (get_or l 1 0) ≡ false → leads_on step bad l ≡ false
+        stops [] h e = absurd (omega arith)
+        stops (s ∷ []) h e = absurd (omega arith)
+        stops (s ∷ (t ∷ xs)) h e = rw (e, leads_on)
+
+    -- a step is passed
+    pub leads_passes : 1 < length l → step (get_or l 0 0) (get_or l 1 0) ≡ true → Left (take (length l - 1) (drop 1 l))
+    unfolding leads_on
+    leads_passes h e =
+        rw (rest_of 1 l)
+        (record {
+          some = omega (arith, length-drop 1 l);
+          small = small l w.small;
+          leads = w.leads ∙ passes l h e;
+        })
+      where
+        small : (l : List ℕ) → each (λ x. ltb x (2 ^ 32)) l ≡ true → each (λ x. ltb x (2 ^ 32)) (drop 1 l) ≡ true
+        small [] s = s
+        small (x ∷ xs) s = (each_rest (λ x. ltb x (2 ^ 32)) x xs s).1
+
+        passes : (l : List ℕ) → 1 < length l → step (get_or l 0 0) (get_or l 1 0) ≡ true → leads_on step bad l ≡ leads_on step bad (drop 1 l)
+        passes [] h e = absurd (omega arith)
+        passes (s ∷ []) h e = absurd (omega arith)
+        passes (s ∷ (t ∷ xs)) h e = rw (e, leads_on)
+
+    -- the last state is tested
+    pub leads_ends : length l < 2 → leads_on step bad path ≡ bad (get_or l 0 0)
+    unfolding leads_on
+    leads_ends h = w.leads ∙ ends l w.some h
+      where
+        ends : (l : List ℕ) → 0 < length l → length l < 2 → leads_on step bad l ≡ bad (get_or l 0 0)
+        ends [] g h = absurd (omega arith)
+        ends (s ∷ []) g h = refl
+        ends (s ∷ (t ∷ xs)) g h = absurd (omega arith)

@@ -5,8 +5,12 @@ use Rattle.base.specs.Refusals.{◌if◌, ◌else◌}
 use Rattle.ic3.specs.Model.{Model, least}
 use Rattle.ic3.specs.Demands.{covers}
 use Rattle.system.specs.System.{System, model, refusal_of}
-use Rattle.evidence.specs.declared.Checked.{Checked}
-use Rattle.evidence.specs.declared.Checked.TheVariants.{Yes, No, Refused}
+
+-- yes or no, with the count of questions; or the number of a refusal, which says neither
+pub data Checked : Type 0 where
+  Yes : ℕ → Checked
+  No : ℕ → Checked
+  Refused : ℕ → Checked
 
 -- the scope's number, and the count of questions; a refusal reports none
 abbrev pub number_of : Checked → ℕ

@@ -5,9 +5,7 @@ use Rattle.ic3.specs.Model.{Model}
 use Rattle.ic3.specs.Demands.{Reach, IsPath, covers, Excludes}
 use Rattle.system.specs.System.{System, model}
 use Rattle.call.specs.Call.{Stores, Said, says_safe, says_unsafe, called}
-use Rattle.evidence.specs.Check.{number_of, questions_of, refused, excluded_states, path_of, checked}
-use Rattle.evidence.specs.declared.Checked.{Checked}
-use Rattle.evidence.specs.declared.Checked.TheVariants.{Yes, No, Refused}
+use Rattle.evidence.specs.Check.{Checked, Yes, No, Refused, number_of, questions_of, refused, excluded_states, path_of, checked}
 
 abbrev pub SaysYes : Checked → Type 0
 SaysYes (Yes questions) = Unit {0}

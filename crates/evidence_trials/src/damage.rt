@@ -1,86 +1,105 @@
-// The ways to damage a list of k states. A state is removed at each place, or replaced by each other number up to 2^n; each number up to 2^n is
+// The ways to damage a list of states. A state is removed at each place, or replaced by each other number up to 2^n; each number up to 2^n is
 // added at each place; two neighbours are swapped at each place; the list is reversed; each state is listed twice; all are removed.
-const KEPT: u64 = 0;
+#[derive(Clone, Copy, Debug, PartialEq, Eq)]
+pub enum Way {
+    Kept,
+    Removed,
+    Replaced,
+    Added,
+    Swapped,
+    Reversed,
+    Twice,
+    Empty,
+}
 
-const REMOVED: u64 = 1;
+pub const WAYS: [Way; 8] = [
+    Way::Kept,
+    Way::Removed,
+    Way::Replaced,
+    Way::Added,
+    Way::Swapped,
+    Way::Reversed,
+    Way::Twice,
+    Way::Empty,
+];
 
-const REPLACED: u64 = 2;
-
-const ADDED: u64 = 3;
-
-const SWAPPED: u64 = 4;
-
-const REVERSED: u64 = 5;
-
-const TWICE: u64 = 6;
-
-const EMPTY: u64 = 7;
+impl Way {
+    pub fn name(self) -> &'static [u8] {
+        match self {
+            Way::Kept => b"kept",
+            Way::Removed => b"removed",
+            Way::Replaced => b"replaced",
+            Way::Added => b"added",
+            Way::Swapped => b"swapped",
+            Way::Reversed => b"reversed",
+            Way::Twice => b"twice",
+            Way::Empty => b"empty",
+        }
+    }
+}
 
 // One damage: the way, the place, and the number put there.
-#[derive(Clone, Copy)]
+#[derive(Clone, Copy, Debug)]
 pub struct Damage {
-    pub way: u64,
+    pub way: Way,
     pub place: usize,
     pub number: u64,
 }
 
-// Whether a list of k states has this damage. The state that stands at the place is `old`.
-pub fn exists(d: Damage, n: u32, k: usize, old: u64) -> bool {
-    let way = d.way;
-    let place = d.place;
-    let here = place < k;
-    let none = d.number == 0;
-    let allowed = d.number <= tables::size(n) as u64;
-    match way {
-        KEPT | REVERSED | EMPTY => none & (place == 0),
-        REMOVED | TWICE => none & here,
-        SWAPPED => none & here & (std::num::wrapping_sub_usize(k, place) != 1),
-        REPLACED => here & allowed & (d.number != old),
-        ADDED => (place <= k) & allowed,
-        _ => false,
+impl Damage {
+    // Whether the list has this damage.
+    pub fn exists(self, n: u32, list: &[u64]) -> bool {
+        let none = self.number == 0;
+        let allowed = self.number <= tables::size(n) as u64;
+        match self.way {
+            Way::Kept | Way::Reversed | Way::Empty => none & (self.place == 0),
+            Way::Removed | Way::Twice => none & (self.place < list.len()),
+            Way::Swapped => none & (self.place.saturating_add(1) < list.len()),
+            Way::Replaced => match list.get(self.place) {
+                Some(old) => allowed & (self.number != *old),
+                None => false,
+            },
+            Way::Added => (self.place <= list.len()) & allowed,
+        }
     }
-}
 
-// How long the damaged list is.
-pub fn length(way: u64, k: usize) -> usize {
-    match way {
-        REMOVED => std::num::wrapping_sub_usize(k, 1),
-        ADDED | TWICE => std::num::wrapping_add_usize(k, 1),
-        EMPTY => 0,
-        _ => k,
+    // How long a list of k states is then.
+    fn length(self, k: usize) -> usize {
+        match self.way {
+            Way::Removed => k.saturating_sub(1),
+            Way::Added | Way::Twice => k.saturating_add(1),
+            Way::Empty => 0,
+            _ => k,
+        }
     }
-}
 
-// Where entry j of the damaged list stood.
-fn source(way: u64, place: usize, k: usize, j: usize) -> usize {
-    let up = std::num::wrapping_add_usize(j, 1);
-    let down = std::num::wrapping_sub_usize(j, 1);
-    if way == REVERSED {
-        return std::num::wrapping_sub_usize(k, up);
+    // Where entry j of the damaged list stood among k states.
+    fn source(self, k: usize, j: usize) -> usize {
+        let up = j.wrapping_add(1);
+        let down = j.wrapping_sub(1);
+        match self.way {
+            Way::Reversed => k.wrapping_sub(up),
+            Way::Removed if self.place <= j => up,
+            Way::Swapped if self.place == j => up,
+            Way::Swapped if self.place == down => down,
+            Way::Added | Way::Twice if self.place < j => down,
+            _ => j,
+        }
     }
-    if (way == REMOVED) & (place <= j) | (way == SWAPPED) & (place == j) {
-        return up;
-    }
-    if ((way == ADDED) | (way == TWICE)) & (place < j) | (way == SWAPPED) & (place == down) {
-        return down;
-    }
-    j
-}
 
-// Entry j of the damaged list.
-fn entry(d: Damage, list: &[u64; 20], k: usize, j: usize) -> u64 {
-    if (j == d.place) & ((d.way == REPLACED) | (d.way == ADDED)) {
-        return d.number;
+    // Entry j of the damaged list.
+    fn entry(self, list: &[u64], j: usize) -> u64 {
+        match self.way {
+            Way::Replaced | Way::Added if self.place == j => self.number,
+            _ => list.get(self.source(list.len(), j)).copied().unwrap_or(0),
+        }
     }
-    list[source(d.way, d.place, k, j) % 20]
-}
 
-pub fn damaged(d: Damage, list: &[u64; 20], k: usize) -> [u64; 20] {
-    let mut out = [0u64; 20];
-    let mut j = 0;
-    while j < 20 {
-        out[j] = entry(d, list, k, j);
-        j += 1;
+    // The damaged list, in front of the room.
+    pub fn done<'b>(self, list: &[u64], room: &'b mut [u64; 20]) -> &'b [u64] {
+        for (j, x) in room.iter_mut().enumerate() {
+            *x = self.entry(list, j);
+        }
+        small_systems::front(room, self.length(list.len()))
     }
-    out
 }

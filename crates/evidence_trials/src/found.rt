@@ -1,96 +1,108 @@
 // Right evidence of a system, found by the walk over all states.
+use checks::Check;
+use tables::Table;
 
-// What stands for the state before the first, and for no state.
-const NO_STATE: usize = 16;
+// Evidence found, and the check that it is for.
+#[derive(Clone, Copy, Debug)]
+pub struct Found<'a> {
+    pub own: Check,
+    pub list: &'a [u64],
+}
 
-// Evidence found: whether it is a path, and how many states it has.
-#[derive(Clone, Copy)]
-pub struct Found {
-    pub path: bool,
-    pub k: usize,
+// A state, and the steps from it to a bad one.
+#[derive(Clone, Copy, Debug)]
+struct Doomed {
+    state: usize,
+    steps: u32,
 }
 
 // The states that no way leads to; or else the others.
-fn collect(n: u32, dist: &[u32; 16], never: bool, list: &mut [u64; 20]) -> usize {
-    let mut k = 0;
-    let mut s = 0;
-    while s < 16 {
-        if (s < tables::size(n)) & ((dist[s] == small_systems::NEVER) == never) {
-            list[k % 20] = s as u64;
-            k = std::num::wrapping_add_usize(k, 1);
-        }
-        s += 1;
+fn collect<'b>(
+    n: u32,
+    dist: &[Option<u32>; 16],
+    never: bool,
+    room: &'b mut [u64; 20],
+) -> &'b [u64] {
+    let all = dist.iter().enumerate().take(tables::size(n));
+    let states = all.filter(|(_, d)| d.is_none() == never);
+    let mut count = 0;
+    for (k, (slot, (s, _))) in room.iter_mut().zip(states).enumerate() {
+        *slot = s as u64;
+        count = k + 1;
     }
-    k
+    small_systems::front(room, count)
 }
 
-// Whether t can come after s, or at the beginning, where s is NO_STATE, and leads to a bad state.
-fn leads(n: u32, table: &[bool], doom: &[u32; 16], s: usize, t: usize) -> bool {
-    let next = if s == NO_STATE {
-        tables::is_start(n, table, t)
-    } else {
-        tables::is_step(n, table, s, t)
-    };
-    next & (doom[t % 16] != small_systems::NEVER)
+// Whether t can come after s, or at the beginning.
+fn follows(table: Table, s: Option<usize>, t: usize) -> bool {
+    match s {
+        None => table.is_start(t),
+        Some(s) => table.is_step(s, t),
+    }
 }
 
-// The state after s from which a bad one is nearest, or farthest; the least of several. NO_STATE if there is none.
-fn choose(n: u32, table: &[bool], doom: &[u32; 16], s: usize, far: bool) -> usize {
-    let mut best = NO_STATE;
-    let mut t = 0;
-    while t < 16 {
-        let other = doom[best % 16];
-        let here = doom[t];
-        let better = if far { other < here } else { here < other };
-        if ((best == NO_STATE) | better) & leads(n, table, doom, s, t) {
-            best = t;
+// The state after s, or at the beginning, from which a bad one is nearest, or farthest; the least of several.
+fn choose(table: Table, doom: &[Option<u32>; 16], s: Option<usize>, far: bool) -> Option<Doomed> {
+    let mut best: Option<Doomed> = None;
+    for (state, steps) in doom.iter().enumerate() {
+        if let Some(steps) = *steps {
+            let better = match best {
+                None => true,
+                Some(b) => if far {
+                    b.steps < steps
+                } else {
+                    steps < b.steps
+                },
+            };
+            if better && follows(table, s, state) {
+                best = Some(Doomed { state, steps });
+            }
         }
-        t += 1;
     }
     best
 }
 
-// A path from the state to a bad one: after a few detours, the shortest. How many states it has.
-fn walk(
-    n: u32,
-    table: &[bool],
-    doom: &[u32; 16],
+// A path from the state to a bad one: after a few detours, the shortest.
+fn walk<'b>(
+    table: Table,
+    doom: &[Option<u32>; 16],
     detours: usize,
-    first: usize,
-    list: &mut [u64; 20],
-) -> usize {
-    let mut s = first;
+    first: Doomed,
+    room: &'b mut [u64; 20],
+) -> &'b [u64] {
+    let mut next = Some(first);
     let mut k = 0;
-    while k < 20 && s != NO_STATE {
-        list[k] = s as u64;
-        let away = k < detours;
-        k += 1;
-        s = if away | (doom[s % 16] != 0) {
-            choose(n, table, doom, s, away)
-        } else {
-            NO_STATE
-        };
+    for (j, x) in room.iter_mut().enumerate() {
+        if let Some(here) = next {
+            *x = here.state as u64;
+            k = j + 1;
+            let away = j < detours;
+            next = if away || here.steps != 0 {
+                choose(table, doom, Some(here.state), away)
+            } else {
+                None
+            };
+        }
     }
-    k
+    small_systems::front(room, k)
 }
 
 // The first evidence is the shortest path, or the states that lead to a bad one; the second a longer path, or the states that are never reached.
-pub fn find(second: bool, n: u32, table: &[bool], list: &mut [u64; 20]) -> Found {
-    let mut dist = [0u32; 16];
-    small_systems::distances(n, table, true, &mut dist);
-    let first = choose(n, table, &dist, NO_STATE, second);
-    if first != NO_STATE {
+pub fn find<'b>(second: bool, table: Table, room: &'b mut [u64; 20]) -> Found<'b> {
+    let mut dist = [None; 16];
+    small_systems::distances(table, true, &mut dist);
+    if let Some(first) = choose(table, &dist, None, second) {
         let detours = if second { 3 } else { 0 };
         return Found {
-            path: true,
-            k: walk(n, table, &dist, detours, first, list),
+            own: Check::Path,
+            list: walk(table, &dist, detours, first, room),
         };
     }
     if second {
-        small_systems::distances(n, table, false, &mut dist);
+        small_systems::distances(table, false, &mut dist);
     }
     Found {
-        path: false,
-        k: collect(n, &dist, second, list),
+        own: Check::Excluded,
+        list: collect(table.n, &dist, second, room),
     }
 }

@@ -1,73 +1,66 @@
 // Systems, or listed numbers, that both checks refuse.
-use super::{checks, counts};
+use checks::Check;
+use counts::write_number;
+use tables::{List, System};
 
-// The length of list `list`, if it is that of number `wrong`; the others are empty.
-fn masks_in(list: u64, wrong: u64, masks: usize) -> usize {
-    if list == wrong { masks } else { 0 }
+// What a check refuses, of a system and a listed number that is no state; 0 if it does not.
+fn refusal(check: Check, s: System) -> u64 {
+    match check.ask(s, &[1 << 33]) {
+        Ok(_) => 0,
+        Err(refusal) => u64::from(u32::from(refusal)),
+    }
 }
 
-// What a check refuses, of a system with one list that is not empty, some masks of a clause, and a listed number that is no state.
-fn refusal(path: bool, n: u32, w: u32, wrong: u64, masks: usize, clause: &[u64; 4]) -> u64 {
-    let list = [1u64 << 33; 1];
-    let a = masks_in(0, wrong, masks);
-    let b = masks_in(1, wrong, masks);
-    let c = masks_in(2, wrong, masks);
-    let said = checks::check(
-        path,
-        n,
-        w,
-        small_systems::front(clause, a),
-        small_systems::front(clause, b),
-        small_systems::front(clause, c),
-        &list,
+// A system with one list that is not empty, some masks of a clause, and how both checks refuse it.
+fn write_refusal(n: u32, w: u32, wrong: List, masks: usize, clause: [u64; 4]) {
+    let s = System::of_one(n, w, wrong, small_systems::front(&clause, masks));
+    write_number(b"n ", n as u64);
+    write_number(b", w ", w as u64);
+    io::write_all(
+        1,
+        match wrong {
+            List::Start => b", start ",
+            List::Step => b", step  ",
+            List::Bad => b", bad   ",
+        },
     );
-    said.number
-}
-
-fn write_refusal(n: u32, w: u32, wrong: u64, masks: usize, clause: [u64; 4]) {
-    counts::report(b"n ", n as u64);
-    counts::report(b", w ", w as u64);
-    counts::write_name(b", start , step  , bad   ", (wrong % 3 * 8) as usize, 8);
-    counts::report(b"with masks ", masks as u64);
-    counts::report(b" of ", clause[0]);
-    counts::report(b" ", clause[1]);
-    counts::report(b" ", clause[2]);
-    counts::report(b" ", clause[3]);
-    counts::report(
-        b": refused with ",
-        refusal(false, n, w, wrong, masks, &clause),
-    );
-    counts::report(b" and ", refusal(true, n, w, wrong, masks, &clause));
+    write_number(b"with masks ", masks as u64);
+    io::write_all(1, b" of");
+    for mask in &clause {
+        write_number(b" ", *mask);
+    }
+    write_number(b": refused with ", refusal(Check::Excluded, s));
+    write_number(b" and ", refusal(Check::Path, s));
     io::write_all(1, b"\n");
 }
 
 // Refusal 1: too few or too many bits or wires.
 fn sizes() {
-    write_refusal(0, 0, 0, 0, [0; 4]);
-    write_refusal(33, 0, 0, 0, [0; 4]);
-    write_refusal(2, 64, 0, 0, [0; 4]);
-    write_refusal(2, 65, 0, 0, [0; 4]);
+    write_refusal(0, 0, List::Start, 0, [0; 4]);
+    write_refusal(33, 0, List::Start, 0, [0; 4]);
+    write_refusal(2, 64, List::Start, 0, [0; 4]);
+    write_refusal(2, 65, List::Start, 0, [0; 4]);
 }
 
 // Refusal 2: a list of one, two or three masks.
-fn mask_counts(wrong: u64) {
-    write_refusal(2, 0, wrong, 1, [1, 0, 0, 0]);
-    write_refusal(2, 0, wrong, 2, [1, 0, 0, 0]);
-    write_refusal(2, 0, wrong, 3, [1, 0, 0, 0]);
+fn mask_counts(wrong: List) {
+    for masks in 1..4 {
+        write_refusal(2, 0, wrong, masks, [1, 0, 0, 0]);
+    }
 }
 
 // Refusal 3: a bit not below n, a later bit of start or bad.
 fn bits() {
-    write_refusal(2, 0, 0, 4, [4, 0, 0, 0]);
-    write_refusal(2, 0, 1, 4, [4, 0, 0, 0]);
-    write_refusal(2, 0, 1, 4, [0, 1 << 34, 0, 0]);
-    write_refusal(2, 0, 2, 4, [0, 4, 0, 0]);
-    write_refusal(2, 0, 0, 4, [1 << 32, 0, 0, 0]);
-    write_refusal(2, 0, 2, 4, [1 << 32, 0, 0, 0]);
+    write_refusal(2, 0, List::Start, 4, [4, 0, 0, 0]);
+    write_refusal(2, 0, List::Step, 4, [4, 0, 0, 0]);
+    write_refusal(2, 0, List::Step, 4, [0, 1 << 34, 0, 0]);
+    write_refusal(2, 0, List::Bad, 4, [0, 4, 0, 0]);
+    write_refusal(2, 0, List::Start, 4, [1 << 32, 0, 0, 0]);
+    write_refusal(2, 0, List::Bad, 4, [1 << 32, 0, 0, 0]);
 }
 
 // Refusal 3: any wire of start, a wire of step or bad that is not below w. Wire w - 1 is right.
-fn wires(wrong: u64) {
+fn wires(wrong: List) {
     write_refusal(2, 3, wrong, 4, [0, 0, 4, 0]);
     write_refusal(2, 3, wrong, 4, [0, 0, 0, 4]);
     write_refusal(2, 3, wrong, 4, [0, 0, 8, 0]);
@@ -80,16 +73,16 @@ fn wires(wrong: u64) {
 // Refusals 1, 2 and 3 come before 7, 1 before 2, 2 before 3. The last list is right.
 pub fn write() {
     sizes();
-    mask_counts(0);
-    mask_counts(1);
-    mask_counts(2);
+    mask_counts(List::Start);
+    mask_counts(List::Step);
+    mask_counts(List::Bad);
     bits();
-    wires(0);
-    wires(1);
-    wires(2);
-    write_refusal(0, 0, 1, 1, [1, 0, 0, 0]);
-    write_refusal(2, 65, 1, 3, [0, 0, 8, 0]);
-    write_refusal(2, 0, 0, 1, [4, 0, 0, 0]);
-    write_refusal(2, 3, 2, 3, [0, 0, 8, 0]);
-    write_refusal(2, 3, 1, 4, [1 << 33, 0, 0, 0]);
+    wires(List::Start);
+    wires(List::Step);
+    wires(List::Bad);
+    write_refusal(0, 0, List::Step, 1, [1, 0, 0, 0]);
+    write_refusal(2, 65, List::Step, 3, [0, 0, 8, 0]);
+    write_refusal(2, 0, List::Start, 1, [4, 0, 0, 0]);
+    write_refusal(2, 3, List::Bad, 3, [0, 0, 8, 0]);
+    write_refusal(2, 3, List::Step, 4, [1 << 33, 0, 0, 0]);
 }

@@ -5,7 +5,12 @@
 // answers the texts from the scope alone.
 #![tactic(auto)]
 
-ghost use Rattle.std.specs.Prelude.{◌≤◌};
+ghost use Rattle.std.specs.Prelude.{◌^◌, ◌≤◌, ◌<◌};
+ghost use Rattle.file_trials.specs.declared.TheConstants.{TEXT};
+
+use aiger::Imported;
+use base::Fault;
+use counts::write_number;
 
 // How many pieces may come. There are fewer.
 const PIECES: u32 = 100000;
@@ -30,232 +35,210 @@ const P: u64 = 2147483629;
 
 const Q: u64 = 2147483587;
 
-// Two bytes, the high one first.
-fn number(high: u8, low: u8) -> usize {
-    high as usize * 256 + low as usize
+// A text in the making: the front of the bytes.
+#[derive(Drop)]
+struct Text {
+    bytes: [u8; TEXT],
+    end: usize,
+    ghost within: { end ≤ TEXT },
 }
 
-fn put(text: &mut [u8], at: usize, byte: u8) {
-    if at < text.len() {
-        text[at] = byte;
+impl Text {
+    fn new() -> Text {
+        Text {
+            bytes: [0; TEXT],
+            end: 0,
+        }
+    }
+
+    // The piece behind what the text has, as far as there is room.
+    fn append(&mut self, piece: &[u8]) {
+        let end = self.end;
+        let more = piece.len().min(TEXT - end);
+        self.bytes[end..end + more].copy_from_slice(&piece[..more]);
+        self.end = end + more;
+    }
+
+    // The next piece, read and repeated.
+    fn take_piece(&mut self, length: u16, times: u16) {
+        let mut piece = [0u8; PIECE];
+        let got = io::read_full(0, &mut piece[..usize::from(length)]);
+        for _ in 0..times {
+            self.append(&piece[..got]);
+        }
+    }
+
+    fn clear(&mut self) {
+        self.end = 0;
+    }
+
+    fn whole(&self) -> &[u8] {
+        &self.bytes[..self.end]
     }
 }
 
-// The piece behind what the text has, as far as there is room; where the text then ends.
-fn append(text: &mut [u8], at: usize, piece: &[u8]) -> usize {
-    let mut end = at;
-    let mut j = 0;
-    while j < piece.len() {
-        put(text, end, piece[j]);
-        end = if end < TEXT { end + 1 } else { end };
-        j += 1;
+// The two bytes of a number, the high one first.
+fn number(high: u8, low: u8) -> u16 {
+    u16::from_be_bytes([high, low])
+}
+
+// A sum over a store to a prime modulus. Two of them tell its content.
+fn sum<const PRIME: u64>(store: &[u64]) -> u64
+    requires { (0 < PRIME) × (PRIME < 2 ^ 32) }
+{
+    let mut sum = 0;
+    for x in store {
+        sum = (sum % PRIME * 65599 + x % PRIME) % PRIME;
     }
-    end
-}
-
-fn repeat(text: &mut [u8], at: usize, piece: &[u8], times: usize) -> usize {
-    let mut end = at;
-    let mut left = times;
-    while 0 < left {
-        end = append(text, end, piece);
-        left -= 1;
-    }
-    end
-}
-
-// The first `count` bytes, or all if there are fewer.
-fn front<'a>(bytes: &'a [u8], count: usize) -> &'a [u8] {
-    if count <= bytes.len() {
-        &bytes[..count]
-    } else {
-        bytes
-    }
-}
-
-// So many bytes of standard input, or as many as there is room for.
-fn read_front(bytes: &mut [u8], count: usize) -> usize {
-    if count <= bytes.len() {
-        return io::read_full(0, &mut bytes[..count]);
-    }
-    io::read_full(0, bytes)
-}
-
-// The next piece, read and repeated.
-fn take_piece(text: &mut [u8], at: usize, length: usize, times: usize) -> usize {
-    let mut piece = [0u8; PIECE];
-    let got = read_front(&mut piece, length);
-    repeat(text, at, front(&piece, got), times)
-}
-
-fn write_answer(text: &[u8]) {
-    let mut output = [0u8; ANSWER];
-    let length = answer::answer(text, &mut output);
-    io::write_all(1, front(&output, length));
-}
-
-fn write_circuit_answer(text: &[u8]) {
-    let mut output = [0u8; ANSWER];
-    let length = circuit_answer::answer(text, &mut output);
-    io::write_all(1, front(&output, length));
-}
-
-fn fill(store: &mut [u64]) {
-    let mut j = 0;
-    while j < store.len() {
-        store[j] = FILL | j as u64;
-        j += 1;
-    }
-}
-
-// Two sums over a store, which tell its content.
-#[derive(Clone, Copy)]
-struct Sums {
-    p: u64,
-    q: u64,
-}
-
-fn with(s: Sums, x: u64) -> Sums {
-    Sums {
-        p: (s.p % P * 65599 + x % P) % P,
-        q: (s.q % Q * 65599 + x % Q) % Q,
-    }
-}
-
-fn sum_up(store: &[u64]) -> Sums {
-    let mut s = Sums { p: 0, q: 0 };
-    let mut j = 0;
-    while j < store.len() {
-        s = with(s, store[j]);
-        j += 1;
-    }
-    s
-}
-
-fn write_next(x: u64) {
-    io::write_all(1, b" ");
-    io::print_decimal(1, x);
+    sum
 }
 
 fn write_sums(store: &[u64]) {
-    let s = sum_up(store);
-    write_next(s.p);
-    write_next(s.q);
+    write_number(b" ", sum::<P>(store));
+    write_number(b" ", sum::<Q>(store));
 }
 
-fn write_imported(r: aiger::Imported) {
-    io::print_decimal(1, r.number as u64);
-    write_next(r.line as u64);
-    write_next(r.n as u64);
-    write_next(r.w as u64);
-    write_next(r.start as u64);
-    write_next(r.step as u64);
-    write_next(r.bad as u64);
+// The number of the refusal and its line, 0 if there is none; and what was imported, 0 after a refusal.
+fn write_imported(r: Result<Imported, Fault>) {
+    let (refusal, others): (u64, [u64; 6]) = match r {
+        Ok(i) => (
+            0,
+            [
+                0,
+                u64::from(i.n),
+                u64::from(i.w),
+                i.start as u64,
+                i.step as u64,
+                i.bad as u64,
+            ],
+        ),
+        Err(fault) => (
+            u64::from(u32::from(fault.refusal)),
+            [fault.line as u64, 0, 0, 0, 0, 0],
+        ),
+    };
+    write_number(b"", refusal);
+    for x in others {
+        write_number(b" ", x);
+    }
 }
 
-fn least(a: usize, b: usize) -> usize
-    ensures { result ≤ b }
-{
-    if a < b { a } else { b }
+// By which reader a circuit is imported.
+#[derive(Clone, Copy)]
+enum Edition {
+    First,
+    Newer,
 }
 
-// By which reader a text is imported, and how much of each store it is lent.
+// How much of each store is lent.
 #[derive(Clone, Copy)]
 struct Lent {
-    newer: bool,
-    start: usize,
-    step: usize,
-    bad: usize,
+    start: u16,
+    step: u16,
+    bad: u16,
 }
 
-fn import_fronts(
-    text: &[u8],
-    start: &mut [u64],
-    step: &mut [u64],
-    bad: &mut [u64],
-    lent: Lent,
-) -> aiger::Imported {
-    let a = least(lent.start, start.len());
-    let b = least(lent.step, step.len());
-    let c = least(lent.bad, bad.len());
-    if lent.newer {
-        return aiger::import_newer(text, &mut start[..a], &mut step[..b], &mut bad[..c]);
+// So much of the store's front, or all of it.
+fn front(store: &mut [u64], count: u16) -> &mut [u64] {
+    let end = usize::from(count).min(store.len());
+    &mut store[..end]
+}
+
+// A whole store before.
+fn filled<const N: usize>() -> [u64; N]
+    requires { N ≤ LARGE }
+{
+    let mut store = [0; N];
+    for (j, x) in store.iter_mut().enumerate() {
+        *x = FILL | j as u64;
     }
-    aiger::import(text, &mut start[..a], &mut step[..b], &mut bad[..c])
+    store
 }
 
-// One line of what is answered, and of the whole stores then.
-fn write_import(text: &[u8], start: &mut [u64], step: &mut [u64], bad: &mut [u64], lent: Lent) {
-    fill(start);
-    fill(step);
-    fill(bad);
-    let r = import_fronts(text, start, step, bad, lent);
-    write_imported(r);
-    write_sums(start);
-    write_sums(step);
-    write_sums(bad);
-    io::write_all(1, b"\n");
-}
+impl Edition {
+    fn import(
+        self,
+        text: &[u8],
+        start: &mut [u64],
+        step: &mut [u64],
+        bad: &mut [u64],
+    ) -> Result<Imported, Fault> {
+        match self {
+            Edition::First => aiger::import(text, start, step, bad),
+            Edition::Newer => aiger::import_newer(text, start, step, bad),
+        }
+    }
 
-fn import_small(text: &[u8], lent: Lent) {
-    let mut start = [0u64; STORE];
-    let mut step = [0u64; STORE];
-    let mut bad = [0u64; STORE];
-    write_import(text, &mut start, &mut step, &mut bad, lent);
-}
+    // One line of what is answered, and of the whole stores then.
+    fn write_import<const N: usize>(self, text: &[u8], lent: Lent)
+        requires { N ≤ LARGE }
+    {
+        let mut start = filled::<N>();
+        let mut step = filled::<N>();
+        let mut bad = filled::<N>();
+        write_imported(self.import(
+            text,
+            front(&mut start, lent.start),
+            front(&mut step, lent.step),
+            front(&mut bad, lent.bad),
+        ));
+        write_sums(&start);
+        write_sums(&step);
+        write_sums(&bad);
+        io::write_all(1, b"\n");
+    }
 
-fn import_large(text: &[u8], lent: Lent) {
-    let mut start = [0u64; LARGE];
-    let mut step = [0u64; LARGE];
-    let mut bad = [0u64; LARGE];
-    write_import(text, &mut start, &mut step, &mut bad, lent);
-}
-
-// The lengths are read.
-fn take_import(text: &[u8], newer: bool) {
-    let mut six = [0u8; 6];
-    io::read_full(0, &mut six);
-    let lent = Lent {
-        newer,
-        start: number(six[0], six[1]),
-        step: number(six[2], six[3]),
-        bad: number(six[4], six[5]),
-    };
-    if lent.start <= STORE && lent.step <= STORE && lent.bad <= STORE {
-        import_small(text, lent);
-    } else {
-        import_large(text, lent);
+    // The lengths are read.
+    fn take_import(self, text: &[u8]) {
+        let mut lengths = [0u8; 6];
+        io::read_full(0, &mut lengths);
+        let [a, b, c, d, e, f] = lengths;
+        let lent = Lent {
+            start: number(a, b),
+            step: number(c, d),
+            bad: number(e, f),
+        };
+        if usize::from(lent.start.max(lent.step).max(lent.bad)) <= STORE {
+            self.write_import::<STORE>(text, lent);
+        } else {
+            self.write_import::<LARGE>(text, lent);
+        }
     }
 }
 
-fn give(text: &[u8], to: usize) {
+// What one of the programs answers, as far as there is room.
+fn write_answer<F: FnOnce(&[u8], &mut [u8]) -> usize>(text: &[u8], answer: F)
+    requires { F.IsAlwaysCallable answer }
+{
+    let mut output = [0u8; ANSWER];
+    let length = answer(text, &mut output).min(ANSWER);
+    io::write_all(1, &output[..length]);
+}
+
+fn give(text: &[u8], to: u16) {
     match to {
-        0 => write_answer(text),
-        1 => write_circuit_answer(text),
-        _ => take_import(text, to == 3),
+        0 => write_answer(text, answer::answer),
+        1 => write_answer(text, circuit_answer::answer),
+        3 => Edition::Newer.take_import(text),
+        _ => Edition::First.take_import(text),
     }
-}
-
-// A piece is taken in, or the text has ended and is given to what the length says; where the text then ends.
-fn turn(text: &mut [u8], end: usize, length: usize, times: usize) -> usize {
-    if times == 0 {
-        give(front(text, end), length);
-        return 0;
-    }
-    take_piece(text, end, length, times)
 }
 
 fn main() {
-    let mut text = [0u8; TEXT];
-    let mut end = 0;
-    let mut left = PIECES;
-    while 0 < left {
+    let mut text = Text::new();
+    for _ in 0..PIECES {
         let mut head = [0u8; 4];
         if io::read_full(0, &mut head) < 4 {
             return;
         }
-        let times = number(head[0], head[1]);
-        let length = number(head[2], head[3]);
-        end = turn(&mut text, end, length, times);
-        left -= 1;
+        let [a, b, c, d] = head;
+        let times = number(a, b);
+        let length = number(c, d);
+        if times == 0 {
+            give(text.whole(), length);
+            text.clear();
+        } else {
+            text.take_piece(length, times);
+        }
     }
 }

@@ -8,15 +8,17 @@ use native.Mathlib.Numerals.{add-one}
 use native.Mathlib.Omega.{arith}
 use borrow.Author.Tests.{ltb-true, eq-eqb, ne_eqb, le-ltb, lt-ltb}
 use lib.Dec.{ltb}
+use Rattle.std.specs.Prelude.{Ok, Err}
 use Rattle.stores.specs.Lies.{Lies}
-use Rattle.line.specs.declared.Line.{Line}
-use Rattle.line.specs.declared.Line.TheVariants.{Size, Clause, Count, Wrong}
+use Rattle.base.specs.Numbers.{number_of}
+use Rattle.base.specs.declared.Refusal.{Refusal}
+use Rattle.base.specs.declared.Refusal.TheVariants as refusal
+use Rattle.line.specs.Says.{Line, Size, Clause, Count, Wrong}
 use Rattle.house.specs.File.{on, refuse, clause_of, room_for, with_clause, taken_as}
 use Rattle.stores.specs.Lists.{Lists, lists}
 use Rattle.house.specs.Promise.{rooms_of}
 use Rattle.house.specs.Inner.{PutAs, Lie, reading_of, one_more, Same, Leads, Enters}
 use Rattle.house.specs.declared.enter.Reading.{Reading}
-use Rattle.house.specs.declared.enter.Taken.TheVariants.{On, Refused}
 use Rattle.house.proofs.Lying.{put_room}
 
 -- the stores are as they were
@@ -25,16 +27,16 @@ same_refl l = record { start = refl; step = refl; bad = refl }
 
 -- ---- the code's tests of a clause more
 module _ (room : Bool) (stage : ℕ) (r : Reading) (start step bad : ℕ) where
-  pub more_last : 1024 ≤ r.clauses → Refused 12 ≡ one_more room stage r start step bad
+  pub more_last : 1024 ≤ r.clauses → Err refusal.Room ≡ one_more room stage r start step bad
   unfolding one_more
   more_last h = rw (le-ltb r.clauses 1024 h, one_more)
 
   pub more_on : r.clauses < 1024 → room ≡ true
-      → On (record { stage = stage; n = r.n; clauses = r.clauses + 1; start = start; step = step; bad = bad }) ≡ one_more room stage r start step bad
+      → Ok (record { stage = stage; n = r.n; clauses = r.clauses + 1; start = start; step = step; bad = bad }) ≡ one_more room stage r start step bad
   unfolding one_more
   more_on h e = rw (e, lt-ltb r.clauses 1024 h, one_more)
 
-  pub more_full : r.clauses < 1024 → room ≡ false → Refused 12 ≡ one_more room stage r start step bad
+  pub more_full : r.clauses < 1024 → room ≡ false → Err refusal.Room ≡ one_more room stage r start step bad
   unfolding one_more
   more_full h e = rw (e, lt-ltb r.clauses 1024 h, one_more)
 
@@ -56,8 +58,8 @@ module _ (r : Reading) (l : Lists) (kind ones zeros : ℕ) where
       pick : (few has : Bool) → ltb r.clauses 1024 ≡ few → room ≡ has
           → Leads (elim (few && has) [ true ↦ on (with_clause (reading_of r l) kind (clause_of ones zeros)) | false ↦ refuse 12 ]) l
           (elim (few && has) [
-            | true ↦ On (record { stage = stage; n = r.n; clauses = r.clauses + 1; start = start; step = step; bad = bad })
-            | false ↦ Refused 12
+            | true ↦ Ok (record { stage = stage; n = r.n; clauses = r.clauses + 1; start = start; step = step; bad = bad })
+            | false ↦ Err refusal.Room
           ])
           after
       pick true true t e =
@@ -111,12 +113,12 @@ module _ {r : Reading} {start step bad : List ℕ} (w : Lie r (lists start step 
 -- ---- what is no clause
 module _ {r : Reading} {l : Lists} (w : Lie r l) {said : Line} where
   pub size_read : {n : ℕ} → said ≡ Size n
-      → Enters r said l (On (record { stage = 1; n = n; clauses = r.clauses; start = r.start; step = r.step; bad = r.bad })) l
+      → Enters r said l (Ok (record { stage = 1; n = n; clauses = r.clauses; start = r.start; step = r.step; bad = r.bad })) l
   size_read e =
       rw e (record { same = same_refl l; leads = refl; lies = record { most = w.most; start = w.start; step = w.step; bad = w.bad } })
 
   pub count_right : {count : ℕ} → said ≡ Count count → count ≡ r.clauses
-      → Enters r said l (On (record { stage = 16; n = r.n; clauses = r.clauses; start = r.start; step = r.step; bad = r.bad })) l
+      → Enters r said l (Ok (record { stage = 16; n = r.n; clauses = r.clauses; start = r.start; step = r.step; bad = r.bad })) l
   count_right {count} e f =
       rw e (record {
         same = same_refl l;
@@ -124,8 +126,8 @@ module _ {r : Reading} {l : Lists} (w : Lie r l) {said : Line} where
         lies = record { most = w.most; start = w.start; step = w.step; bad = w.bad };
       })
 
-  pub count_wrong : {count : ℕ} → said ≡ Count count → (count ≡ r.clauses → ⊥) → Enters r said l (Refused 13) l
+  pub count_wrong : {count : ℕ} → said ≡ Count count → (count ≡ r.clauses → ⊥) → Enters r said l (Err refusal.Count) l
   count_wrong {count} e f = rw e (record { same = same_refl l; leads = rw (ne_eqb count r.clauses f, taken_as); lies = tt })
 
-  pub line_wrong : {number : ℕ} → said ≡ Wrong number → Enters r said l (Refused number) l
-  line_wrong e = rw e (record { same = same_refl l; leads = refl; lies = tt })
+  pub line_wrong : (f : Refusal) → said ≡ Wrong (number_of f) → Enters r said l (Err f) l
+  line_wrong f e = rw e (record { same = same_refl l; leads = refl; lies = tt })

@@ -13,9 +13,7 @@ use lib.ListN.{length, get_or, length-append}
 use Rattle.base.proofs.Tests.{test, clash, both}
 use Rattle.text.specs.Lines.{lines}
 use Rattle.line.specs.Text.{bytes, sum}
-use Rattle.line.specs.Says.{in_place, width, length_for, field, content, frame_says, says}
-use Rattle.line.specs.declared.Line.{Line}
-use Rattle.line.specs.declared.Line.TheVariants.{Wrong}
+use Rattle.line.specs.Says.{Line, Wrong, in_place, width, length_for, field, content, frame_says, says}
 use Rattle.line.proofs.Frames.{form}
 use Rattle.house.specs.File.{Rooms, Reading, Taken, on, refuse, clause_of, room_for, with_clause, taken_as, line_taken}
 use Rattle.house.specs.File.{Said, file, refused, nothing, read_lines, said}

@@ -2,9 +2,7 @@
 use Rattle.std.specs.Prelude.{ℕ, suc, ◌+◌, Bool, true, false, ◌&&◌, List, [], ◌∷◌, ◌++◌, eqb, ltb, leb, length}
 use Rattle.base.specs.Refusals.{most_clause_lines}
 use Rattle.text.specs.Lines.{lines}
-use Rattle.line.specs.Says.{says}
-use Rattle.line.specs.declared.Line.{Line}
-use Rattle.line.specs.declared.Line.TheVariants.{Size, Clause, Count, Wrong}
+use Rattle.line.specs.Says.{Line, Size, Clause, Count, Wrong, says}
 
 -- the lengths of the lent stores of start, step and bad, in masks
 pub record Rooms : Type 0 where

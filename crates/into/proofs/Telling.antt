@@ -6,21 +6,25 @@ use mathlib.Core.Path.{◌≡◌, refl, sym, ◌∙◌}
 use native.Mathlib.Omega.{arith}
 use borrow.Author.Tests.{lt-ltb, le-ltb}
 use lib.Dec.{ltb}
+use Rattle.std.specs.Prelude.{Result, Err}
 use Rattle.base.specs.Refusals.{◌if◌}
-use Rattle.base.proofs.Refusals.{else_first, else_none}
+use Rattle.base.specs.Numbers.{number_of}
+use Rattle.base.specs.declared.Refusal.{Refusal}
+use Rattle.base.proofs.Refusals.{else_first, else_none, number_not_none}
 use Rattle.masks.proofs.OneBit.{pow_within}
 use Rattle.system.specs.System.{System, some_true, pair, model, refusal_of}
 use Rattle.system.proofs.Refusals.{size_right, refusal_none}
 use Rattle.into.specs.Into.{Into, refused, result, told}
 use Rattle.into.specs.Promise.{result_of, Promised, Filled}
 use Rattle.into.specs.declared.Listing.{Listing}
+use Rattle.into.specs.declared.Unlisted.{Unlisted}
 use Rattle.into.proofs.Lists.{lists_some, lists_unique}
 
 module _ (y : System) (t : ℕ) where
   -- the system's own refusals come first
-  pub number_refused : (r : ℕ) → r ≡ refusal_of y → (r ≡ 0 → ⊥) → r ≡ refused y t
+  pub number_refused : (f : Refusal) → number_of f ≡ refusal_of y → number_of f ≡ refused y t
   unfolding refused
-  number_refused r = else_first r (refusal_of y) _
+  number_refused f e = else_first (number_of f) (refusal_of y) _ e (number_not_none f)
 
   -- past them n is at most 32
   small : refusal_of y ≡ 0 → y.n ≤ 32
@@ -44,7 +48,7 @@ module _ (y : System) (t : ℕ) where
   refused_small e = small (else_none (refusal_of y) (29 if not (ltb t (2 ^ y.n))) e).0
 
   -- the list that there is
-  module _ (lent : List ℕ) (r : Listing) (after : List ℕ) where
+  module _ (lent : List ℕ) (r : Result Listing Unlisted) (after : List ℕ) where
     promised : ((xs : List ℕ) → Into (model y) t xs → result_of r after ≡ told y t xs lent) → Promised y t lent r after
     promised f =
         let some = lists_some (λ s. (model y).step s t) (model y).size in
@@ -64,6 +68,5 @@ module _ (y : System) (t : ℕ) where
   told_refused lent xs zero e f = absurd (f refl)
   told_refused lent xs (suc k) e f = rw (← e, told)
 
-  pub promised_refused : (lent : List ℕ) (number : ℕ) → number ≡ refused y t → (number ≡ 0 → ⊥)
-      → Promised y t lent (record { number = number; count = 0; questions = 0 }) lent
-  promised_refused lent number e f = promised lent _ lent (λ xs l. told_refused lent xs number e f)
+  pub promised_refused : (lent : List ℕ) (f : Refusal) → number_of f ≡ refused y t → Promised y t lent (Err (record { refusal = f; questions = 0 })) lent
+  promised_refused lent f e = promised lent _ lent (λ xs l. told_refused lent xs (number_of f) e (number_not_none f))

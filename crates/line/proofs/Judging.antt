@@ -9,8 +9,7 @@ use native.Mathlib.Omega.{arith}
 use borrow.Author.Tests.{le-ltb, eq-eqb, ne_eqb}
 use lib.ListN.{length, get_or}
 use Rattle.line.specs.Text.{bytes, sum}
-use Rattle.line.specs.Says.{in_place, width, length_for, field, content, frame_says, says}
-use Rattle.line.specs.declared.Line.TheVariants.{Size, Clause, Count, Wrong}
+use Rattle.line.specs.Says.{in_place, width, length_for, field, content, frame_says, says, Size, Clause, Count, Wrong}
 
 -- the line makes this frame, whose first byte is the kind
 pub record Makes (line frame : List ℕ) (kind : ℕ) : Type 0 where

@@ -7,13 +7,12 @@ use mathlib.Core.Path.{◌≡◌, refl, sym, ap, ◌∙◌}
 use native.Mathlib.Omega.{arith}
 use borrow.Author.Tests.{eqb-true, eqb-false, ltb-true, ltb-false, lt-ltb, eq-eqb, ne_eqb}
 use lib.Dec.{eqb, ltb}
-use lib.ListN.{length, get_or}
-use lib.Seq.{take_all}
+use lib.ListN.{length, get_or, take, length-take}
+use lib.Seq.{take_all, get_or-take}
 use Rattle.base.proofs.Tests.{test}
 use Rattle.line.specs.Text.{bytes}
-use Rattle.line.specs.Says.{says}
-use Rattle.line.specs.Inner.{frame_at, FrameAt}
-use Rattle.line.specs.declared.Line.TheVariants.{Wrong}
+use Rattle.line.specs.Says.{says, Wrong}
+use Rattle.line.specs.Inner.{FrameAt}
 use Rattle.line.proofs.Digits.{AllDigits, byte_small}
 use Rattle.line.proofs.Frames.{frame_whole, Form, form}
 
@@ -47,28 +46,31 @@ module _ (line : List ℕ) where
   pub last_byte : (frame : List ℕ) → Form line frame → get_or line (length line - 1) 0 ≡ 10
   last_byte frame w = ap (λ x. get_or line x 0) (omega (arith, w.size)) ∙ w.last
 
+  -- the bytes before the last
+  pub inner_length : length (take (length line - 1) line) ≡ length line - 1
+  inner_length = omega (arith, length-take (length line - 1) line)
+
+  pub inner_byte : (k : ℕ) → k < length line - 1 → get_or (take (length line - 1) line) k 0 ≡ get_or line k 0
+  inner_byte k h = get_or-take (length line - 1) line k 0 h
+
+  pub inner_digits : (n : ℕ) → n ≤ length line - 1 → AllDigits (take (length line - 1) line) n → AllDigits line n
+  inner_digits n h all k l =
+      let e = inner_byte k (omega arith) in
+      rw e at (all k l)
+
   -- a line that has not the form
-  pub no_frame : ((frame : List ℕ) → Form line frame → 0 < length frame → length frame ≤ 18 → ⊥) → FrameAt line 0
-  no_frame never = record {
-    most = omega arith;
-    within = omega arith;
-    small = λ j h. absurd (omega arith);
-    frame = λ h. absurd (omega arith);
-    malformed = λ e stage. malformed line stage (λ frame f. never frame (form line frame f));
-  }
+  pub no_frame : ((frame : List ℕ) → Form line frame → 0 < length frame → length frame ≤ 18 → ⊥) → (stage : ℕ) → says line stage ≡ Wrong 8
+  no_frame never stage = malformed line stage (λ frame f. never frame (form line frame f))
 
   -- a line that has the form
-  pub a_frame : (count : ℕ) → length line ≡ suc (2 * count) → count ≤ 18 → get_or line (length line - 1) 0 ≡ 10 → AllDigits line (2 * count)
-      → FrameAt line count
-  a_frame count size most last digits = record {
+  pub a_frame : (count : ℕ) → 0 < count → length line ≡ suc (2 * count) → count ≤ 18 → get_or line (length line - 1) 0 ≡ 10
+      → AllDigits line (2 * count) → FrameAt line count
+  a_frame count filled size most last digits = record {
+    filled = filled;
     most = most;
     within = omega arith;
     small = λ j h. byte_small line (2 * j) (digits (2 * j) (omega arith)) (digits (2 * j + 1) (omega arith));
-    frame = λ h. whole;
-    malformed = λ e stage. malformed line stage (λ frame f pos l. omega (arith, (form line frame f).size));
+    frame =
+        ap bytes (sym (take_all (suc (2 * count)) line (omega arith)))
+        ∙ frame_whole line count 0 (omega arith) (λ j h. digits j (omega arith)) (ap (λ x. get_or line x 0) (omega arith) ∙ last);
   }
-    where
-      whole : bytes line ≡ some (frame_at line 0 count)
-      whole =
-          ap bytes (sym (take_all (suc (2 * count)) line (omega arith)))
-          ∙ frame_whole line count 0 (omega arith) (λ j h. digits j (omega arith)) (ap (λ x. get_or line x 0) (omega arith) ∙ last)

@@ -1,12 +1,12 @@
 -- The kinds of lines, by comparing: which are in place behind a stage, and how many bytes each has. Assumes nothing.
 use Prim.Native.Nat.{ℕ, zero, suc, ◌+◌, ◌*◌, ◌≤◌, ◌<◌}
 use mathlib.Core.Bool.{true, false, ◌&&◌, ◌||◌}
-use mathlib.Core.Logic.{◌⊎◌}
-use mathlib.Core.Path.{◌≡◌, refl}
+use mathlib.Core.Logic.{◌⊎◌, inr, ⊎_elim}
+use mathlib.Core.Path.{◌≡◌, refl, sym, ◌∙◌}
 use native.Mathlib.Omega.{arith}
 use borrow.Author.Tests.{le-leb, lt-leb, eqb-true, eqb-false, eq-eqb, ne_eqb}
 use lib.Dec.{eqb, leb}
-use Rattle.base.proofs.Tests.{test}
+use Rattle.base.proofs.Tests.{test, clash, lt_or_ge}
 use Rattle.line.specs.Says.{in_place, width, length_for}
 use Rattle.line.proofs.Digits.{outside}
 
@@ -31,6 +31,15 @@ module _ (kind : ℕ) where
 
     pub place_last : stage ≤ kind → (kind < 1) ⊎ (3 < kind) → in_place stage kind ≡ eqb kind 15
     place_last k l = rw (place_later stage h, le-leb stage kind k, outside 1 3 kind l)
+
+  -- a kind in its place, not of the size and not of the count, is a clause's
+  pub place_listed : (stage : ℕ) → in_place stage kind ≡ true → (kind ≡ 0 → ⊥) → (kind ≡ 15 → ⊥) → kind ≤ 3
+  place_listed zero e f g = absurd (f (eqb-true kind 0 (sym (place_first zero refl) ∙ e)))
+  place_listed (suc s) e f g =
+      ⊎_elim
+      (λ past. ⊎_elim (λ below. clash e (place_below (suc s) (omega arith) below))
+      (λ from. absurd (g (eqb-true kind 15 (sym (place_last (suc s) (omega arith) from (inr past)) ∙ e)))) (lt_or_ge kind (suc s)))
+      (λ l. l) (lt_or_ge 3 kind)
 
   -- a mask has eight bytes in a step and four elsewhere
   pub width_step : kind ≡ 2 → width kind ≡ 8

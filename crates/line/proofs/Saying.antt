@@ -6,9 +6,8 @@ use mathlib.Core.Path.{◌≡◌, refl, sym, ap, ◌∙◌}
 use native.Mathlib.Omega.{arith}
 use lib.ListN.{length}
 use Rattle.line.specs.Text.{sum, number}
-use Rattle.line.specs.Says.{in_place, width, length_for, says}
+use Rattle.line.specs.Says.{in_place, width, length_for, says, Size, Clause, Count, Wrong}
 use Rattle.line.specs.Inner.{byte_at, frame_at, NumberAt, FrameAt}
-use Rattle.line.specs.declared.Line.TheVariants.{Size, Clause, Count, Wrong}
 use Rattle.line.proofs.Placing.{length_size, length_count, length_clause}
 use Rattle.line.proofs.Numbers.{frame_size, frame_byte, frame_field}
 use Rattle.line.proofs.Judging.{Makes, says_sum, says_place, says_length, says_size, says_count, says_clause}
@@ -31,13 +30,13 @@ pub record Right (line : List ℕ) (count stage kind : ℕ) : Type 0 where
   pub place : in_place stage kind ≡ true
   pub size : count ≡ length_for kind
 
-module _ (line : List ℕ) (count stage : ℕ) (w : FrameAt line count) (filled : count ≡ 0 → ⊥) where
+module _ (line : List ℕ) (count stage : ℕ) (w : FrameAt line count) where
   makes : (kind : ℕ) → kind ≡ byte_at line 0 → Makes line (frame_at line 0 count) kind
   makes kind k = record {
-    made = w.frame (omega (arith, filled));
-    least = rw (frame_size line count 0) (omega (arith, filled));
+    made = w.frame;
+    least = rw (frame_size line count 0) w.filled;
     most = rw (frame_size line count 0) w.most;
-    first = frame_byte line count 0 0 (omega (arith, filled)) ∙ ap (byte_at line) (omega arith) ∙ sym k;
+    first = frame_byte line count 0 0 w.filled ∙ ap (byte_at line) (omega arith) ∙ sym k;
   }
 
   pub sum_wrong : {t : ℕ} → t ≡ sum (frame_at line 0 count) → (t % 256 ≡ 0 → ⊥) → Wrong 9 ≡ says line stage

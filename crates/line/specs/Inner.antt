@@ -1,10 +1,9 @@
 -- What the private functions require and ensure, with a name for each fact. A line is read by index. Nothing here has to be believed: no public
 -- promise mentions it.
-use Rattle.std.specs.Prelude.{ℕ, zero, suc, ◌+◌, ◌*◌, ◌≤◌, ◌<◌, List, [], ◌∷◌, ◌≡◌, length, get_or}
+use Rattle.std.specs.Prelude.{Option, None, Some, ℕ, zero, suc, ◌+◌, ◌*◌, ◌≤◌, ◌<◌, List, [], ◌∷◌, ◌≡◌, length, get_or}
 use Rattle.std.proofs.Math.Option.{some}
 use Rattle.line.specs.Text.{digit, bytes}
-use Rattle.line.specs.Says.{says}
-use Rattle.line.specs.declared.Line.TheVariants.{Wrong}
+use Rattle.line.specs.Says.{says, Wrong}
 
 -- the byte that the pair of digits at index i makes
 unfoldable pub byte_at : List ℕ → ℕ → ℕ
@@ -26,10 +25,15 @@ pub record NumberAt (text : List ℕ) (i count : ℕ) : Type 0 where
   pub within : i + 2 * count ≤ length text
   pub small : (j : ℕ) → j < count → byte_at text (i + 2 * j) < 256
 
--- the line makes a frame of `count` bytes; with 0 of them it is refused with 8
+-- the line makes a frame of `count` bytes
 pub record FrameAt (line : List ℕ) (count : ℕ) : Type 0 where
+  pub filled : 0 < count
   pub most : count ≤ 18
   pub within : 2 * count ≤ length line
   pub small : (j : ℕ) → j < count → byte_at line (2 * j) < 256
-  pub frame : 0 < count → bytes line ≡ some (frame_at line 0 count)
-  pub malformed : count ≡ 0 → (stage : ℕ) → says line stage ≡ Wrong 8
+  pub frame : bytes line ≡ some (frame_at line 0 count)
+
+-- the line makes a frame, or is refused with 8
+abbrev pub Framed : List ℕ → Option ℕ → Type 0
+Framed line None = (stage : ℕ) → says line stage ≡ Wrong 8
+Framed line (Some count) = FrameAt line count

@@ -3,8 +3,13 @@ use Rattle.std.specs.Prelude.{ℕ, zero, suc, ◌+◌, ◌*◌, ◌/◌, ◌%◌
 use Rattle.std.proofs.Math.Option.{none, some}
 use Rattle.base.specs.Refusals.{most_digits}
 use Rattle.line.specs.Text.{bytes, sum, number}
-use Rattle.line.specs.declared.Line.{Line}
-use Rattle.line.specs.declared.Line.TheVariants.{Size, Clause, Count, Wrong}
+
+-- the size; a clause of a kind, its bits wanted 1 and 0; the count of clause lines; or the number of what is wrong
+pub data Line : Type 0 where
+  Size : ℕ → Line
+  Clause : ℕ → ℕ → ℕ → Line
+  Count : ℕ → Line
+  Wrong : ℕ → Line
 
 -- a kind is known and in its place: one 00 line, then 01 lines, 02 lines, 03 lines, one 0F line, nothing after
 unfoldable pub in_place : ℕ → ℕ → Bool

@@ -4,24 +4,32 @@
 // Every private function that reads a part of the line requires that it lies within.
 #![tactic(auto)]
 
-ghost use Rattle.std.specs.Prelude.{◌≡◌, ◌+◌, ◌<◌, length};
+ghost use Rattle.std.specs.Prelude.{◌≡◌, ◌+◌, ◌<◌, ◌≤◌, length};
 ghost use Rattle.line.specs.Text.{digit, sum, number};
 ghost use Rattle.line.specs.Says.{in_place, width, length_for, says};
-ghost use Rattle.line.specs.Inner.{byte_at, frame_at, SumAt, NumberAt, FrameAt};
+ghost use Rattle.line.specs.Told.{number_of, said_of};
+ghost use Rattle.line.specs.Inner.{byte_at, frame_at, SumAt, NumberAt, Framed};
 
-// What a line says by itself: the size, a clause, the count of clause lines, or what is wrong with it.
-#[derive(Clone, Copy)]
-pub enum Line {
-    Size(u32),
-    Clause { kind: u32, ones: u64, zeros: u64 },
-    Count(u32),
-    Wrong(u32),
+use base::Refusal;
+
+// Which list a clause is of.
+#[derive(Clone, Copy, Debug, PartialEq, Eq)]
+pub enum List {
+    Start,
+    Step,
+    Bad,
 }
 
-// The most bytes of a line, its line feed among them.
-const MOST_LINE: usize = base::MOST_DIGITS + 1;
+// What a line says by itself: the size, a clause, or the count of clause lines.
+#[derive(Clone, Copy, Debug, PartialEq, Eq)]
+pub enum Line {
+    Size(u32),
+    Clause { list: List, ones: u64, zeros: u64 },
+    Count(u32),
+}
 
 // The value of a digit, 16 if it is none.
+// Stays: the definition `digit` gives every byte a number, and a frame is read of bytes that were seen to be digits.
 fn digit_value(c: u8) -> u32
     ensures { result ≡ digit c }
 {
@@ -42,40 +50,37 @@ fn byte_at(line: &[u8], at: usize) -> u32
     16 * digit_value(line[at]) + digit_value(line[at + 1])
 }
 
-// How many bytes the frame of a line has, 0 if the line is malformed: not pairs of digits with a line feed, empty, or over 36 digits.
-fn frame_length(line: &[u8]) -> usize
-    ensures { FrameAt line.now result }
+// How many bytes the frame of a line has; none if the line is malformed: not pairs of digits with a line feed, empty, or over 36 digits.
+fn frame_length(line: &[u8]) -> Option<usize>
+    ensures { Framed line.now result }
 {
-    let len = line.len();
-    if MOST_LINE < len {
-        return 0;
+    let [digits @ .., last] = line else {
+        return None;
+    };
+    if *last != b'\n' {
+        return None;
     }
-    if len % 2 == 0 {
-        return 0;
+    let len = digits.len();
+    if len == 0 || base::MOST_DIGITS < len || len % 2 != 0 {
+        return None;
     }
-    if line[len - 1] != 10 {
-        return 0;
-    }
-    let mut j = 0;
-    while j + 1 < len {
-        if digit_value(line[j]) == 16 {
-            return 0;
+    for c in digits {
+        if digit_value(*c) == 16 {
+            return None;
         }
-        j += 1;
     }
-    len / 2
+    Some(len / 2)
 }
 
 // The sum of a frame's bytes.
+// Stays: the count beside the line, here and in `number_at`: of a slice it would have to be shown that it is even and within the line, which `SumAt` says.
 fn sum_of(line: &[u8], count: usize) -> u32
     requires { SumAt line.now count }
     ensures { result ≡ sum (frame_at line.now 0 count) }
 {
     let mut total = 0;
-    let mut j = 0;
-    while j < count {
+    for j in 0..count {
         total += byte_at(line, 2 * j);
-        j += 1;
     }
     total
 }
@@ -86,15 +91,14 @@ fn number_at(line: &[u8], at: usize, count: usize) -> u64
     ensures { result ≡ number 0 (frame_at line.now at count) }
 {
     let mut high = 0;
-    let mut j = 0;
-    while j < count {
+    for j in 0..count {
         high = 256 * high + byte_at(line, at + 2 * j) as u64;
-        j += 1;
     }
     high
 }
 
 // Whether a kind is known and in its place.
+// Stays: a kind is the first byte of a line, any byte, and the definitions `in_place`, `width` and `length_for` speak of every one.
 fn in_place(stage: u32, kind: u32) -> bool
     ensures { result ≡ in_place stage kind }
 {
@@ -130,34 +134,46 @@ fn length_for(kind: u32) -> usize
     2 + 2 * mask_width(kind)
 }
 
-// What a line says behind a stage; every slice has its answer, with or without a line feed.
-pub fn parse(line: &[u8], stage: u32) -> Line
-    ensures { result ≡ says line.now stage }
+// The list of a clause's kind.
+fn list_of(kind: u32) -> List
+    requires { (1 ≤ kind) × (kind ≤ 3) }
+    ensures { number_of result ≡ kind }
 {
-    let count = frame_length(line);
-    if count == 0 {
-        return Line::Wrong(8);
+    match kind {
+        1 => List::Start,
+        2 => List::Step,
+        _ => List::Bad,
     }
+}
+
+// What a line says behind a stage; every slice has its answer, with or without a line feed.
+// Stays: the stage is a number, since `parse` answers for every one; an enum would ask more of its callers.
+pub fn parse(line: &[u8], stage: u32) -> Result<Line, Refusal>
+    ensures { said_of result ≡ says line.now stage }
+{
+    let Some(count) = frame_length(line) else {
+        return Err(Refusal::Digits);
+    };
     if sum_of(line, count) % 256 != 0 {
-        return Line::Wrong(9);
+        return Err(Refusal::Sum);
     }
     let kind = byte_at(line, 0);
     if !in_place(stage, kind) {
-        return Line::Wrong(10);
+        return Err(Refusal::Kind);
     }
     if count != length_for(kind) {
-        return Line::Wrong(11);
+        return Err(Refusal::Length);
     }
     if kind == 0 {
-        return Line::Size(byte_at(line, 2));
+        return Ok(Line::Size(byte_at(line, 2)));
     }
     if kind == 15 {
-        return Line::Count(number_at(line, 2, 2) as u32);
+        return Ok(Line::Count(number_at(line, 2, 2) as u32));
     }
     let width = mask_width(kind);
-    Line::Clause {
-        kind,
+    Ok(Line::Clause {
+        list: list_of(kind),
         ones: number_at(line, 2, width),
         zeros: number_at(line, 2 + 2 * width, width),
-    }
+    })
 }

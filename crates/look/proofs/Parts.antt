@@ -9,9 +9,11 @@ use native.Mathlib.Omega.{arith}
 use Rattle.masks.specs.Bit.{somewhere}
 use Rattle.system.specs.System.{list_true}
 use Rattle.look.specs.Excluded.{excluded}
-use Rattle.look.specs.Condition.{state_of, word_true, allowed, Condition, condition, region, outside, fulfils}
+use Rattle.look.specs.Condition.{state_of, word_true, allowed, Condition, condition, region, lent, outside, fulfils}
 use Rattle.look.specs.Look.{Scanned}
+use Rattle.std.specs.Borrow.{Bor}
 use Rattle.look.specs.declared.Look.{Look}
+use Rattle.look.specs.declared.Region.{Region}
 use Rattle.look.specs.declared.Settled.{Settled}
 use Rattle.look.proofs.Looks.{scanned_by}
 
@@ -60,3 +62,7 @@ module _ (within whole levels : List ℕ) where
   unfolding outside word_true list_true
   outside_stored zero f s = absurd (f refl)
   outside_stored (suc i) f s = refl
+
+-- of a lent region too
+pub lent_whole : (r : Region) (whole : Bor (List ℕ)) → (lent r whole).whole ≡ whole.now
+lent_whole r whole = region_whole r.within.now whole.now r.levels.now r.i

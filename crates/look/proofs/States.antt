@@ -1,25 +1,26 @@
 -- Excluded states. A state is excluded exactly if some entry of the store is that state, with a level of i or more; so entries are looked at one
 -- by one. An entry below 2^32 is a clause too: it wants a 0 where the entry has a 1, and a 1 where it has a 0. Such a clause is false of a word only
 -- if the word's state is the entry, bit by bit; so what it says of settled bits, the store says as well. Assumes nothing.
-use mathlib.Core.Path.{◌≡◌, sym, ◌∙◌}
+use mathlib.Core.Path.{◌≡◌, refl, sym, ◌∙◌}
 use mathlib.Core.Bool.{Bool, true, false, ◌&&◌, not-eq-not}
-use mathlib.Core.List.{List}
+use mathlib.Core.List.{List, [], ◌∷◌}
 use mathlib.Core.Logic.{⊎_elim}
-use Prim.Native.Nat.{ℕ, ◌-◌, ◌%◌, ◌^◌, ◌≤◌, ◌<◌}
+use Prim.Native.Nat.{ℕ, suc, ◌+◌, ◌-◌, ◌%◌, ◌^◌, ◌<◌}
 use native.Mathlib.Nat.{mod-lt}
 use native.Mathlib.Omega.{arith}
-use borrow.Author.Tests.{eq-eqb, ne_eqb, le-leb}
+use borrow.Author.Tests.{eq-eqb}
 use lib.Dec.{eqb, leb}
-use lib.ListN.{length, get_or, get_or-eq_default}
-use lib.Seq.{drop-cons}
+use lib.ListN.{length, get_or}
 use lib.Bits.{and_mask}
 use lib.Pow.{pow_pos}
+use Rattle.std.specs.Prelude.{nat_eq}
+use Rattle.std.specs.List.{list_any, enumerate_from}
 use Rattle.base.proofs.Tests.{clash, lt_or_ge}
-use Rattle.masks.specs.Bit.{bit}
+use Rattle.masks.specs.Bit.{bit, somewhere}
 use Rattle.masks.proofs.Bits.{bit_le, bit_of_zero, bit_past, at_bit, bits_below}
 use Rattle.masks.proofs.Operations.{flip, full}
 use Rattle.masks.proofs.Halves.{bit_mod}
-use Rattle.masks.proofs.Somewhere.{somewhere_false}
+use Rattle.masks.proofs.Somewhere.{somewhere_false, somewhere_first, somewhere_same}
 use Rattle.masks.proofs.Words.{low_width, first_word}
 use Rattle.system.specs.declared.Clause.{Clause}
 use Rattle.look.specs.Excluded.{excluded}
@@ -32,26 +33,32 @@ use Rattle.look.proofs.Agreement.{among_by}
 use Rattle.look.proofs.Clauses.{clause_of_lem}
 use Rattle.look.proofs.Looks.{scanned_by}
 
--- a level that stands beside entry j
-pub level_there : (i : ℕ) (levels : List ℕ) (j : ℕ) → j < length levels → leb i (get_or levels j 0) ≡ leb i (get_or levels j i)
-level_there i levels j h =
-    let e : get_or levels j 0 ≡ get_or levels j i = cc (drop-cons levels j 0 h, drop-cons levels j i h) in
-    rw e
+-- a search through a list, each number with its index, is one through the positions
+any_at : (p : ℕ → ℕ → Bool) (n : ℕ) (xs : List ℕ)
+    → list_any (λ (q : ℕ × ℕ). p q.0 q.1) (enumerate_from n xs) ≡ somewhere (length xs) (λ j. p (n + j) (get_or xs j 0))
+any_at p n [] = sym ((somewhere_false 0 (λ j. p (n + j) (get_or [] j 0))).1 (λ i h. absurd (omega arith)))
+any_at p n (x ∷ xs) =
+    let here : n + 0 ≡ n = omega arith in
+    rw (any_at p (n + 1) xs)
+    (sym (somewhere_first (length xs) (λ j. p (n + j) (get_or (x ∷ xs) j 0))
+    ∙ rw (
+      here,
+      somewhere_same (length xs) (λ j. p (n + suc j) (get_or xs j 0)) (λ j. p (n + 1 + j) (get_or xs j 0))
+          (λ j h. let e : n + suc j ≡ n + 1 + j = omega arith in rw e),
+    ) refl))
 
--- an entry with no level beside it has every level
-pub level_missing : (i : ℕ) (levels : List ℕ) (j : ℕ) → length levels ≤ j → true ≡ leb i (get_or levels j i)
-level_missing i levels j h = rw (get_or-eq_default levels i h) (sym (le-leb i i (omega arith)))
+pub any_from : (i : ℕ) (states levels : List ℕ) (s : ℕ)
+    → list_any (λ (q : ℕ × ℕ). nat_eq q.1 s && leb i (get_or levels q.0 i)) (enumerate_from 0 states) ≡ excluded i states levels s
+unfolding excluded
+any_from i states levels s =
+    any_at (λ j x. nat_eq x s && leb i (get_or levels j i)) 0 states
+    ∙ somewhere_same (length states) _ _ (λ j h. let e : 0 + j ≡ j = omega arith in rw e)
 
 -- entry j is s, with a level of i or more
 unfoldable pub entry : ℕ → List ℕ → List ℕ → ℕ → ℕ → Bool
 entry i states levels s j = eqb (get_or states j 0) s && leb i (get_or levels j i)
 
 module _ (i : ℕ) (states levels : List ℕ) (s : ℕ) where
-  -- an entry that is another state
-  pub entry_other : (j : ℕ) → (get_or states j 0 ≡ s → ⊥) → entry i states levels s j ≡ false
-  unfolding entry
-  entry_other j d = rw (ne_eqb (get_or states j 0) s d)
-
   -- an entry of that state has the answer of its level
   pub entry_same : (j : ℕ) → get_or states j 0 ≡ s → entry i states levels s j ≡ leb i (get_or levels j i)
   unfolding entry

@@ -3,6 +3,7 @@ use Rattle.std.specs.Prelude.{ℕ, zero, suc, ◌/◌, ◌%◌, ◌^◌, Bool, n
 use Rattle.std.specs.Borrow.{Bor}
 use Rattle.system.specs.System.{list_true}
 use Rattle.look.specs.Excluded.{excluded}
+use Rattle.look.specs.declared.Region.{Region}
 
 -- the state of a word
 abbrev pub state_of : ℕ → ℕ
@@ -32,9 +33,9 @@ abbrev pub region : List ℕ → List ℕ → List ℕ → ℕ → Condition
 region within whole levels zero = condition within whole [] levels 0
 region within whole levels (suc i) = condition [] whole within levels (suc i)
 
--- the same of lent lists
-abbrev pub lent : Bor (List ℕ) → Bor (List ℕ) → Bor (List ℕ) → ℕ → Condition
-lent within whole levels i = region within.now whole.now levels.now i
+-- the same of a lent region and a lent list
+abbrev pub lent : Region → Bor (List ℕ) → Condition
+lent r whole = region r.within.now whole.now r.levels.now r.i
 
 -- the state s is none of the region
 unfoldable pub outside : Condition → ℕ → Bool

@@ -32,6 +32,15 @@ pub enum Look {
     },
 }
 
+// R(i): for R(0) `within` is the start list, and above it holds the stored states, of which those with a level of i or more are excluded. A state with no
+// level beside it counts as stored with every level.
+#[derive(Clone, Copy)]
+pub struct Region<'a> {
+    pub within: &'a [u64],
+    pub levels: &'a [u32],
+    pub i: u32,
+}
+
 // The low half of a pair is what remains by 2^32.
 pub const HALF: u64 = 1 << 32;
 
@@ -74,26 +83,24 @@ fn clause(c: Clause, s: Settled, waiting: u64) -> Look
     }
 }
 
-// The clauses of a list from `from` up to below `end`. Where one says something, these blocks wait still: `waiting`, with clauses left behind it, or
-// `others`.
-fn scan_part(list: &[u64], from: usize, end: usize, s: Settled, waiting: u64, others: u64) -> Look
-    requires { end ≤ length list.now / 4 }
+// The clauses of a list. Where one says something, these blocks wait still: `waiting`, with clauses left behind it, or `others`.
+fn scan_part(list: &[u64], s: Settled, waiting: u64, others: u64) -> Look
     ensures { Scanned (word_true list.now) s result }
 {
-    let mut j = from;
-    while j < end {
+    let mut left = list;
+    while let [ones, zeros, wire_ones, wire_zeros, rest @ ..] = left {
         let c = Clause {
             ones: Mask {
-                pair: list[4 * j],
-                wires: list[4 * j + 2],
+                pair: *ones,
+                wires: *wire_ones,
             },
             zeros: Mask {
-                pair: list[4 * j + 1],
-                wires: list[4 * j + 3],
+                pair: *zeros,
+                wires: *wire_zeros,
             },
         };
-        j += 1;
-        let look = clause(c, s, if j < end { waiting } else { others });
+        left = rest;
+        let look = clause(c, s, if left.is_empty() { others } else { waiting });
         let Look::Rest = look else {
             return look;
         };
@@ -109,17 +116,13 @@ fn scan(list: &[u64], waiting: u64, s: Settled) -> Look
     let size = order::size(count);
     let mut left = waiting;
     while 0 < left {
-        let from = size * u64::trailing_zeros(left) as usize;
+        let from = size * left.trailing_zeros() as usize;
         if count <= from {
             return Look::Rest;
         }
-        let end = if size < count - from {
-            from + size
-        } else {
-            count
-        };
+        let end = count.min(from + size);
         let others = left & (left - 1);
-        let look = scan_part(list, from, end, s, left, others);
+        let look = scan_part(&list[4 * from..4 * end], s, left, others);
         let Look::Rest = look else {
             return look;
         };
@@ -132,7 +135,7 @@ fn scan(list: &[u64], waiting: u64, s: Settled) -> Look
 pub fn scan_all(list: &[u64], s: Settled) -> Look
     ensures { Scanned (word_true list.now) s result }
 {
-    scan_part(list, 0, list.len() / 4, s, 0, 0)
+    scan_part(list, s, 0, 0)
 }
 
 // The part of a mask that is the state's.
@@ -149,17 +152,15 @@ fn low_part(m: Mask) -> Mask
 fn scan_low(list: &[u64], s: Settled) -> Look
     ensures { Scanned (λ w. word_true list.now (state_of w)) s result }
 {
-    let Settled { bits, values } = s;
     let above = Mask {
         pair: ALL - STATE,
         wires: ALL,
     };
     let lowered = Settled {
-        bits: masks::or(bits, above),
-        values: low_part(values),
+        bits: masks::or(s.bits, above),
+        values: low_part(s.values),
     };
-    let look = scan_all(list, lowered);
-    match look {
+    match scan_all(list, lowered) {
         Look::Rest => Look::Rest,
         Look::Failed(reason) => Look::Failed(low_part(reason)),
         Look::Forced {
@@ -176,72 +177,50 @@ fn scan_low(list: &[u64], s: Settled) -> Look
     }
 }
 
-// Whether entry j is stored with a level of i or more; with no level beside it, it is.
-fn at_level(levels: &[u32], j: usize, i: u32) -> bool
-    ensures { result ≡ leb i (get_or levels.now j i) }
-{
-    if j < levels.len() {
-        return i <= levels[j];
+impl Region<'_> {
+    // Whether entry j is stored with a level of i or more.
+    fn at_level(&self, j: usize) -> bool
+        ensures { result ≡ leb self.now.i (get_or self.now.levels.now j self.now.i) }
+    {
+        let i = self.i;
+        self.levels.get(j).is_none_or(|level| i <= *level)
     }
-    true
-}
 
-// Whether the state s is stored with a level of i or more.
-pub fn is_excluded(states: &[u64], levels: &[u32], i: u32, s: u64) -> bool
-    ensures { result ≡ excluded i states.now levels.now s }
-{
-    let mut j = 0;
-    while j < states.len() {
-        if states[j] == s {
-            if at_level(levels, j, i) {
-                return true;
-            }
+    // With the whole state settled: a failure at an excluded state rests on the state's bits alone. With no bit open at all the word is tested next, the
+    // excluded states first.
+    fn scan_state(&self, s: Settled) -> Look
+        requires { StateSettled s }
+        ensures { Scanned (allowed self.now.within.now self.now.levels.now self.now.i) s result }
+    {
+        if is_excluded(self, s.values.pair % HALF) {
+            return Look::Failed(Mask {
+                pair: STATE,
+                wires: 0,
+            });
         }
-        j += 1;
+        Look::Rest
     }
-    false
-}
 
-// With the whole state settled: a failure at an excluded state rests on the state's bits alone. With no bit open at all the word is tested next, the
-// excluded states first.
-fn scan_state(states: &[u64], levels: &[u32], i: u32, s: Settled) -> Look
-    requires { StateSettled s }
-    ensures { Scanned (allowed states.now levels.now i) s result }
-{
-    let Settled { bits: _, values } = s;
-    if is_excluded(states, levels, i, values.pair % HALF) {
-        return Look::Failed(Mask {
-            pair: STATE,
-            wires: 0,
-        });
-    }
-    Look::Rest
-}
-
-// The excluded states. Each is a clause that some bit of the state differs; it uses all of them, so it says nothing while two are open.
-fn scan_states(states: &[u64], levels: &[u32], i: u32, s: Settled) -> Look
-    ensures { Scanned (allowed states.now levels.now i) s result }
-{
-    let Settled { bits, values: _ } = s;
-    let open = !bits.pair % HALF;
-    if open == 0 {
-        return scan_state(states, levels, i, s);
-    }
-    if open & (open - 1) != 0 {
-        return Look::Rest;
-    }
-    let mut j = 0;
-    while j < states.len() {
-        let state = states[j];
-        if state < HALF {
-            if at_level(levels, j, i) {
+    // The excluded states. Each is a clause that some bit of the state differs; it uses all of them, so it says nothing while two are open.
+    fn scan_states(&self, s: Settled) -> Look
+        ensures { Scanned (allowed self.now.within.now self.now.levels.now self.now.i) s result }
+    {
+        let open = !s.bits.pair % HALF;
+        if open == 0 {
+            return self.scan_state(s);
+        }
+        if open & (open - 1) != 0 {
+            return Look::Rest;
+        }
+        for (j, state) in self.within.iter().enumerate() {
+            if *state < HALF && self.at_level(j) {
                 let c = Clause {
                     ones: Mask {
-                        pair: STATE - state,
+                        pair: STATE - *state,
                         wires: 0,
                     },
                     zeros: Mask {
-                        pair: state,
+                        pair: *state,
                         wires: 0,
                     },
                 };
@@ -251,33 +230,34 @@ fn scan_states(states: &[u64], levels: &[u32], i: u32, s: Settled) -> Look
                 };
             }
         }
-        j += 1;
+        Look::Rest
     }
-    Look::Rest
+
+    // What R(i) says: the start list for R(0), else the excluded states.
+    fn scan(&self, s: Settled) -> Look
+        ensures { (whole : List ℕ) → Scanned (fulfils (region self.now.within.now whole self.now.levels.now self.now.i)) s result }
+    {
+        if self.i == 0 {
+            return scan_low(self.within, s);
+        }
+        self.scan_states(s)
+    }
 }
 
-// What R(i) says: the start list for R(0), else the excluded states.
-fn scan_region(within: &[u64], levels: &[u32], i: u32, s: Settled) -> Look
-    ensures { (whole : List ℕ) → Scanned (fulfils (region within.now whole levels.now i)) s result }
+// Whether the state s is stored with a level of i or more.
+pub fn is_excluded(r: &Region, s: u64) -> bool
+    ensures { result ≡ excluded r.now.i r.now.within.now r.now.levels.now s }
 {
-    if i == 0 {
-        return scan_low(within, s);
-    }
-    scan_states(within, levels, i, s)
+    r.within
+        .iter()
+        .enumerate()
+        .any(|(j, state)| *state == s && r.at_level(j))
 }
 
 // What is forced next: the blocks that wait come to rest before R(i) is looked at, and it is not where the state's bits are those at which it was looked at
 // last, nor where no bit is open and the word is tested next.
-pub fn forced(
-    within: &[u64],
-    whole: &[u64],
-    levels: &[u32],
-    i: u32,
-    s: Settled,
-    waiting: u64,
-    looked: u64,
-) -> Look
-    ensures { Scanned (fulfils (lent within.entry whole.entry levels.entry i)) s result }
+pub fn forced(r: &Region, whole: &[u64], s: Settled, waiting: u64, looked: u64) -> Look
+    ensures { Scanned (fulfils (lent r.now whole.entry)) s result }
 {
     let look = scan(whole, waiting, s);
     let Look::Rest = look else {
@@ -287,22 +267,22 @@ pub fn forced(
     if bits.pair == looked || bits.pair & bits.wires == ALL {
         return Look::Rest;
     }
-    scan_region(within, levels, i, s)
+    r.scan(s)
 }
 
 // Whether the state is none of R(i).
-pub fn is_outside(within: &[u64], levels: &[u32], i: u32, s: u64) -> bool
-    ensures { (whole : List ℕ) → result ≡ outside (region within.now whole levels.now i) (s % 2 ^ 32) }
+pub fn is_outside(r: &Region, s: u64) -> bool
+    ensures { (whole : List ℕ) → result ≡ outside (region r.now.within.now whole r.now.levels.now r.now.i) (s % 2 ^ 32) }
 {
     let state = s % HALF;
-    if i == 0 {
+    if r.i == 0 {
         return !system::list_true(
-            within,
+            r.within,
             Mask {
                 pair: state,
                 wires: 0,
             },
         );
     }
-    is_excluded(within, levels, i, state)
+    is_excluded(r, state)
 }

@@ -1,5 +1,6 @@
 -- A mask of two words as one number: its positions below 64 are those of the pair, and those from 64 on are those of the wires. So what is done word by word is
 -- done with the number, position by position. Assumes nothing.
+use mathlib.Core.Bool.{◌&&◌}
 use mathlib.Core.Path.{◌≡◌, refl, sym, ap, ap₂, ◌∙◌}
 use mathlib.Core.Logic.{◌⊎◌, inl, inr, ◌↔◌, ⊎_elim}
 use Prim.Native.Nat.{ℕ, suc, ◌+◌, ◌-◌, ◌*◌, ◌/◌, ◌%◌, ◌^◌, ◌≤◌, ◌<◌}
@@ -10,7 +11,7 @@ use borrow.Author.Tests.{eqb-true, eqb-false, eq-eqb, ne_eqb}
 use lib.Dec.{eqb}
 use lib.Count.{count_trailing_zeros}
 use lib.Pow.{pow_pos, pow-add, pow-lt, pow_mono, ones_lt, shl-shr, high, low, mod-mod-pow}
-use Rattle.base.proofs.Tests.{test, eq_or_ne, lt_or_ge}
+use Rattle.base.proofs.Tests.{test, both, eq_or_ne, lt_or_ge}
 use Rattle.masks.specs.Bit.{bit}
 use Rattle.masks.specs.Word.{width, word_of, OneBit}
 use Rattle.masks.specs.declared.Mask.{Mask}
@@ -121,6 +122,21 @@ module _ (a b : Mask) where
   pub words_same : a.pair ≡ b.pair → a.wires ≡ b.wires → word_of a ≡ word_of b
   unfolding word_of
   words_same e f = rw (e, f)
+
+  -- two words are compared as one number is
+  pub same_lem : Fits a → Fits b → (eqb a.pair b.pair && eqb a.wires b.wires) ≡ eqb (word_of a) (word_of b)
+  same_lem f g =
+      test (eqb (word_of a) (word_of b))
+      (λ e.
+      let s = same_words f g (eqb-true _ _ e) in
+      rw (e, eq-eqb a.pair b.pair s.0, eq-eqb a.wires b.wires s.1))
+      (λ e.
+      rw e
+      (test (eqb a.pair b.pair && eqb a.wires b.wires)
+      (λ h.
+      let s = both (eqb a.pair b.pair) (eqb a.wires b.wires) h in
+      absurd (eqb-false _ _ e (words_same (eqb-true _ _ s.0) (eqb-true _ _ s.1))))
+      (λ h. h)))
 
 -- every position
 pub full_word : (m : Mask) → bit_and m.pair m.wires ≡ 2 ^ 64 - 1 → word_of m ≡ 2 ^ width - 1

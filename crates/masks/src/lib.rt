@@ -7,7 +7,7 @@ ghost use Rattle.std.specs.Int.Bits.{bit_and, bit_or};
 ghost use Rattle.masks.specs.Word.{width, word_of, OneBit};
 
 // Positions of a pair, the state's bits in its low half and the same bits one step later in its high half; and of the wires.
-#[derive(Clone, Copy)]
+#[derive(Clone, Copy, Debug, PartialEq, Eq)]
 pub struct Mask {
     pub pair: u64,
     pub wires: u64,
@@ -51,10 +51,11 @@ pub fn without(a: Mask, b: Mask) -> Mask
 }
 
 // Whether two masks have the same positions.
+// Stays beside `==`: its promise is of masks as one number, and two must-fail edits are of it, `same_by_the_pair_alone` and `same_with_the_words_exchanged`.
 pub fn same(a: Mask, b: Mask) -> bool
     ensures { result ≡ eqb (word_of a) (word_of b) }
 {
-    a.pair == b.pair && a.wires == b.wires
+    a == b
 }
 
 // Whether a mask has no position.

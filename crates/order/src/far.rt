@@ -14,6 +14,7 @@ struct Far {
     left: usize,
 }
 
+// Stays: clauses are read by index here, as the must-fail edit `reads_one_past_the_list` needs it.
 // Whether clause j uses no far wire and has the wire in its mask `at`: 2 for wanted 1, 3 for wanted 0.
 fn wants(list: &[u64], j: usize, at: usize, far: u64, wire: u64) -> bool
     requires { (4 * j + 3 < length list.now) × (at ≤ 3) }
@@ -34,12 +35,10 @@ fn clash(list: &[u64], j: usize, k: usize, wire: u64) -> bool
 fn clashes(list: &[u64], j: usize, far: u64, wire: u64) -> bool
     requires { 4 * j + 3 < length list.now }
 {
-    let mut k = 0;
-    while k < list.len() / 4 {
+    for k in 0..list.len() / 4 {
         if wants(list, k, 3, far, wire) && !clash(list, j, k, wire) {
             return false;
         }
-        k += 1;
     }
     true
 }
@@ -49,8 +48,7 @@ fn judge(list: &[u64], wire: u64, f: Far) -> Far {
     let count = list.len() / 4;
     let far = f.wires;
     let mut left = f.left;
-    let mut j = 0;
-    while j < count {
+    for j in 0..count {
         if left < count {
             return Far {
                 wires: far,
@@ -63,7 +61,6 @@ fn judge(list: &[u64], wire: u64, f: Far) -> Far {
                 return Far { wires: far, left };
             }
         }
-        j += 1;
     }
     Far {
         wires: far | wire,
@@ -75,6 +72,7 @@ fn judge(list: &[u64], wire: u64, f: Far) -> Far {
 fn more(list: &[u64], w: u32, f: Far) -> Far {
     let mut found = f;
     let mut k = w;
+    // Stays: a `for` ends by its form, and the must-fail edit `judges_the_wires_for_ever` is this loop without its step.
     while 0 < k {
         k -= 1;
         let wire = masks::power(k);
@@ -91,10 +89,8 @@ pub(crate) fn first(list: &[u64], w: u32) -> u64 {
         wires: 0,
         left: MOST_LOOKS,
     };
-    let count = if w < 64 { w } else { 64 };
-    let mut rounds = count;
-    while 0 < rounds {
-        rounds -= 1;
+    let count = w.min(64);
+    for _ in 0..count {
         let found = more(list, count, far);
         if found.wires == far.wires {
             return !far.wires;

@@ -36,8 +36,8 @@ fn mark(table: &mut [u64; TABLE], part: usize, mask: u64, block: u64)
     let mut left = mask;
     while 0 < left {
         let at = part + lowest(left);
-        table[at] = table[at] | block;
-        left = left & (left - 1);
+        table[at] |= block;
+        left &= left - 1;
     }
 }
 
@@ -45,14 +45,12 @@ fn mark(table: &mut [u64; TABLE], part: usize, mask: u64, block: u64)
 fn fill(list: &[u64], w: u32, table: &mut [u64; TABLE]) {
     let count = list.len() / 4;
     let size = size(count);
-    let mut j = 0;
-    while j < count {
+    for j in 0..count {
         let block = masks::power((j / size) as u32);
         mark(table, 0, list[4 * j], block);
         mark(table, 64, list[4 * j + 1], block);
         mark(table, 128, list[4 * j + 2], block);
         mark(table, 192, list[4 * j + 3], block);
-        j += 1;
     }
     table[256] = first(list, w);
 }

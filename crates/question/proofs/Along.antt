@@ -1,140 +1,98 @@
 -- The trail leads from the bits that were settled before its first entry to those that are settled behind its last. A reason at its end, resolved along
 -- it, is a reason at its beginning, and a word that passes at its end passes at its beginning. One entry more keeps both, by the law of one bit; so
 -- nothing is said of the settings between. Assumes nothing.
-use Prim.Native.Nat.{ℕ, zero, suc, ◌+◌, ◌-◌, ◌*◌, ◌≤◌, ◌<◌}
+use Prim.Native.Nat.{ℕ, ◌+◌, ◌-◌, ◌≤◌, ◌<◌}
 use mathlib.Core.Bool.{Bool}
-use mathlib.Core.List.{List}
-use mathlib.Core.Path.{◌≡◌, refl, sym, ap, ◌∙◌}
+use mathlib.Core.List.{List, [], ◌∷◌, ◌++◌, reverse}
+use mathlib.Core.Path.{◌≡◌, refl, ap, ◌∙◌}
 use native.Mathlib.Omega.{arith}
 use borrow.Rule.Slice.PartMut.{put_mid, take_put}
 use lib.Count.{ones, ones-le}
-use lib.ListN.{length, get_or, set, length-set}
-use lib.Seq.{get_or-take, get_or-set_same, get_or-set_other}
-use Rattle.masks.specs.Word.{word_of}
-use Rattle.masks.specs.declared.Mask.{Mask}
+use lib.ListN.{length, set, take}
+use Rattle.std.proofs.lemmas.List.{reverse-append, take_more_set}
+use Rattle.masks.specs.Word.{width, word_of}
 use Rattle.look.specs.Reason.{Reason, Forces, more, Setting}
-use Rattle.question.specs.Reason.{Sound, Passing, Falls, mask_at, noted, resolved, resolved_along, LongEnough}
+use Rattle.question.specs.Reason.{Sound, Passing, Falls, resolved, resolved_along, LongEnough}
+use Rattle.question.specs.declared.trail.Entry.{Entry}
 use Rattle.question.proofs.More.{more_sound, more_falls}
 use Rattle.question.proofs.Resolution.{resolved_reason}
 use Rattle.question.proofs.Solving.{more_passes, forced}
 
--- no entry is left
-pub along_none : (width : ℕ) (trail : List ℕ) (m : ℕ) → resolved_along width trail 0 m ≡ m
+-- the last of the entries is given up first
+along_more : (width : ℕ) (entries : List Entry) (e : Entry) (m : ℕ)
+    → resolved_along width (entries ++ (e ∷ [])) m ≡ resolved_along width entries (resolved width m (word_of e.reason) (word_of e.bit))
 unfolding resolved_along
-along_none width trail m = refl
+along_more width [] e m = refl
+along_more width (x ∷ entries) e m = rw (along_more width entries e m) refl
 
--- the last of k entries is given up
-pub along_last : (width : ℕ) (trail : List ℕ) (k m : ℕ) → 0 < k
-    → resolved_along width trail (k - 1)
-    (resolved width m (word_of (mask_at trail (4 * (k - 1)))) (word_of (mask_at trail (4 * (k - 1) + 2)))) ≡ resolved_along width trail k m
+-- the reason that is left when entries are given up one by one, in the order of the list
+abbrev pub back : List Entry → ℕ → ℕ
+back [] m = m
+back (e ∷ entries) m = back entries (resolved width m (word_of e.reason) (word_of e.bit))
+
+pub back_more : (entries : List Entry) (e : Entry) (m : ℕ)
+    → back (entries ++ (e ∷ [])) m ≡ resolved width (back entries m) (word_of e.reason) (word_of e.bit)
+back_more [] e m = refl
+back_more (x ∷ entries) e m = back_more entries e _
+
+-- from the last back they are given up along the trail
+pub back_along : (entries : List Entry) (m : ℕ) → back (reverse entries) m ≡ resolved_along width entries m
 unfolding resolved_along
-along_last width trail zero m h = absurd (omega arith)
-along_last width trail (suc k) m h =
-    let e : suc k - 1 ≡ k = omega arith in
-    rw e refl
-
--- the first n numbers are the same
-abbrev SameFront : ℕ → List ℕ → List ℕ → Type 0
-SameFront n t u = (j : ℕ) → j < n → get_or t j 0 ≡ get_or u j 0
-
--- entries that are the same give the same reason
-along_same : (width : ℕ) (t u : List ℕ) (k m : ℕ) → SameFront (4 * k) t u → resolved_along width t k m ≡ resolved_along width u k m
-unfolding resolved_along
-along_same width t u zero m h = refl
-along_same width t u (suc k) m h =
-    rw (h (4 * k) (omega arith), h (4 * k + 1) (omega arith), h (4 * k + 2) (omega arith), h (4 * k + 2 + 1) (omega arith))
-    (along_same width t u k _ (λ j l. h j (omega arith)))
+back_along [] m = refl
+back_along (e ∷ entries) m =
+    rw (reverse-append (e ∷ []) entries)
+    (back_more (reverse entries) e m ∙ ap (λ r. resolved width r (word_of e.reason) (word_of e.bit)) (back_along entries m))
 
 -- The first k entries of the trail lead from s to r.
-pub record Led (width : ℕ) (P : ℕ → Bool) (s : Setting) (trail : List ℕ) (k : ℕ) (r : Setting) : Type 0 where
+pub record Led (width : ℕ) (P : ℕ → Bool) (s : Setting) (trail : List Entry) (k : ℕ) (r : Setting) : Type 0 where
   pub sound : Sound width r
   pub count : ones r.bits ≡ ones s.bits + k
   pub passes : (w : ℕ) → Passing width P r w → Passing width P s w
-  pub reasons : (m : ℕ) → Reason P r m → Reason P s (resolved_along width trail k m)
+  pub reasons : (m : ℕ) → Reason P r m → Reason P s (resolved_along width (take k trail) m)
 
 -- no entry
-pub led_none : {width : ℕ} {P : ℕ → Bool} {s : Setting} {trail : List ℕ} → Sound width s → Led width P s trail 0 s
-led_none {width} {P} {s} {trail} ok =
-    record { sound = ok; count = omega arith; passes = λ w p. p; reasons = λ m r. rw (along_none width trail m) r }
+pub led_none : {width : ℕ} {P : ℕ → Bool} {s : Setting} {trail : List Entry} → Sound width s → Led width P s trail 0 s
+unfolding resolved_along
+led_none {width} {P} {s} {trail} ok = record { sound = ok; count = omega arith; passes = λ w p. p; reasons = λ m r. r }
 
-module _ {width : ℕ} {P : ℕ → Bool} {s r : Setting} {trail : List ℕ} {k : ℕ} (L : Led width P s trail k r) where
-  -- the entries are the same on another trail
-  led_same : (u : List ℕ) → SameFront (4 * k) trail u → Led width P s u k r
-  led_same u h =
+module _ {width : ℕ} {P : ℕ → Bool} {s r : Setting} {trail : List Entry} {k : ℕ} (L : Led width P s trail k r) where
+  -- the trail when what stands behind them was lent, and came back as ys
+  abbrev pub put : List Entry → List Entry
+  put = put_mid k (length trail - k) trail
+
+  -- the entries are the same on it
+  pub led_lent : (ys : List Entry) → k ≤ length trail → Led width P s (put ys) k r
+  led_lent ys h =
       record {
         sound = L.sound;
         count = L.count;
         passes = L.passes;
-        reasons = λ m q. rw (along_same width trail u k m h) at (L.reasons m q);
+        reasons = λ m q. rw (take_put k (length trail - k) trail ys h) (L.reasons m q);
       }
-
-  -- the trail when what stands behind them was lent, and came back as ys
-  abbrev pub put : List ℕ → List ℕ
-  put = put_mid (4 * k) (length trail - 4 * k) trail
-
-  pub led_lent : (ys : List ℕ) → 4 * k ≤ length trail → Led width P s (put ys) k r
-  led_lent ys h =
-      led_same (put ys)
-      (λ j l. sym (get_or-take (4 * k) trail j 0 l)
-      ∙ ap (λ t. get_or t j 0) (sym (take_put (4 * k) (length trail - 4 * k) trail ys h))
-      ∙ get_or-take (4 * k) (put ys) j 0 l)
 
   -- no more entries than positions
   pub led_few : k ≤ width
   led_few = omega (arith, L.count, ones-le width r.bits L.sound.fits)
 
   -- they are on the trail
-  pub led_within : LongEnough width s trail → 4 * k ≤ length trail
+  pub led_within : LongEnough width s trail → k ≤ length trail
   led_within h = omega (arith, L.count, ones-le width r.bits L.sound.fits)
 
   -- an entry more
-  module _ (reason b : Mask) {value : ℕ} (F : Forces width P r (word_of reason) (word_of b) value) where
+  module _ (e : Entry) {value : ℕ} (F : Forces width P r (word_of e.reason) (word_of e.bit) value) where
     -- there is a place for it
-    pub led_next : LongEnough width s trail → 4 * k + 4 ≤ length trail
+    pub led_next : LongEnough width s trail → k < length trail
     led_next h =
-        let f : Falls width r (more r (word_of b) value) = more_falls (forced L.sound F) L.sound in
+        let f : Falls width r (more r (word_of e.bit) value) = more_falls (forced L.sound F) L.sound in
         omega (arith, f.one, f.most, L.count)
 
-    pub led_more : 4 * k + 4 ≤ length trail → Led width P s (noted trail k reason b) (k + 1) (more r (word_of b) value)
+    pub led_more : k < length trail → Led width P s (set trail k e) (k + 1) (more r (word_of e.bit) value)
     led_more h =
         record {
           sound = more_sound (forced L.sound F) L.sound;
           count = omega (arith, L.count, (more_falls (forced L.sound F) L.sound).one);
           passes = λ w p. L.passes w (more_passes (forced L.sound F) P w p);
           reasons = λ m q.
-              rw (last m) (L.reasons _ (resolved_reason L.sound (forced L.sound F) P m (word_of reason) q F.fails));
+              rw (take_more_set trail k e h, along_more width (take k trail) e m)
+              (L.reasons _ (resolved_reason L.sound (forced L.sound F) P m (word_of e.reason) q F.fails));
         }
-      where
-        -- the trail with some of the four numbers written
-        one : List ℕ
-        one = set trail (4 * k) reason.pair
-
-        two : List ℕ
-        two = set one (4 * k + 1) reason.wires
-
-        three : List ℕ
-        three = set two (4 * k + 2) b.pair
-
-        last : (m : ℕ) → resolved_along width (noted trail k reason b) (k + 1) m ≡ resolved_along width trail k (resolved width m (word_of reason) (word_of b))
-        last m =
-            let e : k + 1 - 1 ≡ k = omega arith in
-            let at_0 : get_or (noted trail k reason b) (4 * k) 0 ≡ reason.pair =
-            get_or-set_other three (4 * k + 3) (4 * k) b.wires 0 (λ q. omega arith)
-            ∙ get_or-set_other two (4 * k + 2) (4 * k) b.pair 0 (λ q. omega arith)
-            ∙ get_or-set_other one (4 * k + 1) (4 * k) reason.wires 0 (λ q. omega arith)
-            ∙ get_or-set_same trail (4 * k) reason.pair 0 (omega arith) in
-            let at_1 : get_or (noted trail k reason b) (4 * k + 1) 0 ≡ reason.wires =
-            get_or-set_other three (4 * k + 3) (4 * k + 1) b.wires 0 (λ q. omega arith)
-            ∙ get_or-set_other two (4 * k + 2) (4 * k + 1) b.pair 0 (λ q. omega arith)
-            ∙ get_or-set_same one (4 * k + 1) reason.wires 0 (simp length-set (omega arith)) in
-            let at_2 : get_or (noted trail k reason b) (4 * k + 2) 0 ≡ b.pair =
-            get_or-set_other three (4 * k + 3) (4 * k + 2) b.wires 0 (λ q. omega arith)
-            ∙ get_or-set_same two (4 * k + 2) b.pair 0 (simp length-set (omega arith)) in
-            let at_3 : get_or (noted trail k reason b) (4 * k + 2 + 1) 0 ≡ b.wires =
-            (let f : 4 * k + 2 + 1 ≡ 4 * k + 3 = omega arith in rw f (get_or-set_same three (4 * k + 3) b.wires 0 (simp length-set (omega arith)))) in
-            sym (along_last width (noted trail k reason b) (k + 1) m (omega arith))
-            ∙ rw (e, at_0, at_1, at_2, at_3) (along_same width (noted trail k reason b) trail k _ (λ j l.
-            get_or-set_other three (4 * k + 3) j b.wires 0 (λ q. omega arith)
-            ∙ get_or-set_other two (4 * k + 2) j b.pair 0 (λ q. omega arith)
-            ∙ get_or-set_other one (4 * k + 1) j reason.wires 0 (λ q. omega arith)
-            ∙ get_or-set_other trail (4 * k) j reason.pair 0 (λ q. omega arith)))

@@ -12,6 +12,7 @@ use native.Mathlib.Omega.{arith}
 use lib.Bits.{bit_and, and_mask}
 use lib.Count.{count_trailing_zeros, ones, ones_cat, ones-ones}
 use lib.Pow.{pow_pos, pow_mono, pow-add, shr_lt, split, high, low, high_ones}
+use Rattle.std.specs.Prelude.{Option as Returned, Some, None, Result, Ok, Err}
 use Rattle.base.proofs.Tests.{lt_or_ge, test}
 use Rattle.masks.specs.Bit.{bit, somewhere}
 use Rattle.masks.specs.Word.{width, word_of}
@@ -31,16 +32,12 @@ use Rattle.question.specs.Question.{answered}
 use Rattle.question.specs.Asked.{somehow, asked_in, asked, Block}
 use Rattle.question.specs.Reason.{Sound, Agrees}
 use Rattle.question.specs.Engine.{LeastFront, Few}
-use Rattle.question.specs.declared.Answer.{Answer}
-use Rattle.question.specs.declared.Answer.TheVariants.{State, Nothing}
-use Rattle.question.specs.declared.engine.Found.{Found}
-use Rattle.question.specs.declared.engine.Found.TheVariants.{Word, Nothing}
 use Rattle.question.proofs.Ranges.{Free, Between, between_is, is_between, free_on, first_on}
 
 -- the state of the word that is found
-abbrev pub on_state : Found → Answer
-on_state (Word w) = State (w.pair % 2 ^ 32)
-on_state (Nothing bits) = Nothing
+abbrev pub on_state : Result Mask Mask → Returned ℕ
+on_state (Ok w) = Some (w.pair % 2 ^ 32)
+on_state (Err bits) = None
 
 -- ---- the next block
 -- With as many open bits as `at` ends in zeros, and no more than a state has, `at` and the end are both multiples of the block's length.
@@ -77,6 +74,10 @@ wider {n} b =
 -- the number of states of k bits, as the code has it
 pub block_length : {n at k : ℕ} → Block n at k → 2 ^ min k 32 ≡ 2 ^ k
 block_length {n} {at} {k} b = let e : min k 32 ≡ k = omega (arith, b.low) in ap (λ x. 2 ^ x) e
+
+-- a block is one of 64 positions
+pub block_inside : {n at k : ℕ} → Block n at k → 2 ^ min k 64 ≡ 2 ^ k
+block_inside {n} {at} {k} b = let e : min k 64 ≡ k = omega (arith, b.low) in ap (λ x. 2 ^ x) e
 
 -- ---- words that agree, word by word
 module _ (m v : Mask) (w : ℕ) where
@@ -241,9 +242,9 @@ module _ (at k u w : ℕ) (b : Block 32 at k) (fu : u < 2 ^ 32) where
   front_at s x f = and_mask (x * 2 ^ 64 + (s + 2 ^ 32 * u)) 32 ∙ omega arith
 
   -- the state of a word whose front is least is the least state
-  least_state : (P : ℕ → Bool) (r : Found) → LeastFront P (2 ^ 32 - 1) from_block r
+  least_state : (P : ℕ → Bool) (r : Result Mask Mask) → LeastFront P (2 ^ 32 - 1) from_block r
       → Between at (at + 2 ^ k) (λ s. somewhere (2 ^ min w 64) (λ x. P (x * 2 ^ 64 + (s + 2 ^ 32 * u)))) (answered (on_state r))
-  least_state P (Word m) L =
+  least_state P (Ok m) L =
       record {
         low = omega (arith, here);
         high = omega (arith, here, mod-lt (v % 2 ^ 64) (pow_pos k));
@@ -271,7 +272,7 @@ module _ (at k u w : ℕ) (b : Block 32 at k) (fu : u < 2 ^ 32) where
             low_half m,
           )))
           (λ e. e)
-  least_state P (Nothing reason) L =
+  least_state P (Err reason) L =
       λ s g l. (somewhere_false (2 ^ min w 64) _).1 (λ x f.
       L.why (x * 2 ^ 64 + (s + 2 ^ 32 * u))
       (agree_among (word_of reason) _ (x * 2 ^ 64 + (s + 2 ^ 32 * u)) (word_of from_block.values) L.among (word_agrees s x g l f)))
@@ -283,7 +284,7 @@ passes w c t s = somehow w c (s + 2 ^ 32 * (t % 2 ^ 32))
 
 module _ (w : ℕ) (c : Condition) (t : ℕ) where
   -- of a block, from the least front
-  pub block_asked : (at k : ℕ) → Block 32 at k → (r : Found) → LeastFront (fulfils c) (2 ^ 32 - 1) (block_of at k (t % 2 ^ 32) w) r
+  pub block_asked : (at k : ℕ) → Block 32 at k → (r : Result Mask Mask) → LeastFront (fulfils c) (2 ^ 32 - 1) (block_of at k (t % 2 ^ 32) w) r
       → answered (on_state r) ≡ asked_in at (at + 2 ^ k) w c t
   unfolding asked_in somehow
   block_asked at k b r L =

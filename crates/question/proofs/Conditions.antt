@@ -10,6 +10,8 @@ use mathlib.Core.Path.{◌≡◌, refl, sym, ap, ◌∙◌}
 use native.Mathlib.Nat.{mod-lt, mod-eq_of_lt, div-eq_of_lt, min-eq_left, lt_of_lt_of_le}
 use native.Mathlib.Omega.{arith}
 use lib.Pow.{pow_pos, pow_mono, high, low}
+use Rattle.std.specs.Prelude.{Option as Returned, Some, None}
+use Rattle.std.specs.Option.{is_some}
 use Rattle.base.proofs.Tests.{lt_or_ge}
 use Rattle.masks.specs.Bit.{somewhere}
 use Rattle.masks.proofs.Halves.{bit_low, bit_high, bit_mod}
@@ -18,7 +20,7 @@ use Rattle.ic3.proofs.Least.{least_same}
 use Rattle.system.specs.System.{list_true, some_true, pair}
 use Rattle.look.specs.Excluded.{excluded}
 use Rattle.look.specs.Condition.{state_of, word_true, allowed, Condition, condition, region, fulfils}
-use Rattle.question.specs.Question.{inside, not_below, bad_in, step_in}
+use Rattle.question.specs.Question.{answered, inside, not_below, bad_in, step_in}
 use Rattle.question.specs.Asked.{somehow, asked_in, asked}
 use Rattle.question.proofs.Pairs.{Same, list_same}
 use Rattle.question.proofs.Ranges.{is_between}
@@ -127,6 +129,10 @@ module _ (n w : ℕ) (start whole states levels : List ℕ) where
 abbrev pub found : Option ℕ → Bool
 found none = false
 found (some s) = true
+
+pub is_found : (r : Returned ℕ) → is_some r ≡ found (answered r)
+is_found None = refl
+is_found (Some s) = refl
 
 module _ (w : ℕ) (list : List ℕ) (at t : ℕ) (f : at < 2 ^ 32) where
   abbrev alone : Condition

@@ -1,18 +1,16 @@
 -- The two kinds of question of the scope, over lent lists: a state of R(i) that is bad, and a state of R(i) that can step to a given state; of
 -- each the least that is not below a given number.
 -- Every input has its answer: lists and stores are taken as they are, an n above 32 for 32, and a w above 64 finds what 64 finds.
-use Rattle.std.specs.Prelude.{ℕ, zero, suc, ◌^◌, min, Bool, true, not, ◌&&◌, List, ltb}
+use Rattle.std.specs.Prelude.{ℕ, zero, suc, ◌^◌, min, Bool, true, not, ◌&&◌, List, ltb, Option as Returned, Some, None}
 use Rattle.std.proofs.Math.Option.{Option, none, some}
 use Rattle.ic3.specs.Model.{least}
 use Rattle.system.specs.System.{list_true, some_true, pair}
 use Rattle.look.specs.Excluded.{excluded}
-use Rattle.question.specs.declared.Answer.{Answer}
-use Rattle.question.specs.declared.Answer.TheVariants.{State, Nothing}
 
 -- an answer is a state, or says that none exists
-abbrev pub answered : Answer → Option ℕ
-answered (State s) = some s
-answered Nothing = none
+abbrev pub answered : Returned ℕ → Option ℕ
+answered (Some s) = some s
+answered None = none
 
 -- R(0) is the set of start states; for i above 0, R(i) is every state except those stored with a level of i or more
 unfoldable pub inside : List ℕ → List ℕ → List ℕ → ℕ → ℕ → Bool

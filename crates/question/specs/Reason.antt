@@ -1,11 +1,11 @@
 -- What the engine's laws speak of beyond what a look finds: of words of any width, as numbers that are read bit by bit. P is the condition.
-use Rattle.std.specs.Prelude.{ℕ, zero, suc, ◌+◌, ◌-◌, ◌*◌, ◌^◌, ◌≤◌, ◌<◌, Bool, true, false, List, ◌⊎◌, ◌≡◌, eqb, length, get_or, set}
+use Rattle.std.specs.Prelude.{ℕ, ◌+◌, ◌-◌, ◌^◌, ◌≤◌, ◌<◌, Bool, true, false, List, [], ◌∷◌, ◌⊎◌, ◌≡◌, eqb, length}
 use Rattle.std.specs.Int.Bits.{bit_and, bit_or}
 use Rattle.std.specs.Int.Count.{ones}
 use Rattle.masks.specs.Bit.{bit}
 use Rattle.masks.specs.Word.{word_of}
-use Rattle.masks.specs.declared.Mask.{Mask}
 use Rattle.look.specs.Reason.{Agree, Among, Setting, Open}
+use Rattle.question.specs.declared.trail.Entry.{Entry}
 
 -- ---- a setting
 -- the invariant: the settled bits are positions of a word, and the values are within them
@@ -28,24 +28,14 @@ unfoldable pub resolved : ℕ → ℕ → ℕ → ℕ → ℕ
 resolved width x y b = elim (eqb (bit_and x b) 0) [ true ↦ x | false ↦ bit_and (bit_or x y) (2 ^ width - 1 - b) ]
 
 -- ---- a trail
--- the mask at index i, a pair and the wires
-abbrev pub mask_at : List ℕ → ℕ → Mask
-mask_at trail i = record { pair = get_or trail i 0; wires = get_or trail (i + 1) 0 }
-
--- An entry is two masks, the reason for which a forced bit fails at its other value, and the bit: four numbers.
-abbrev pub noted : List ℕ → ℕ → Mask → Mask → List ℕ
-noted trail k reason b =
-    set (set (set (set trail (4 * k) reason.pair) (4 * k + 1) reason.wires) (4 * k + 2) b.pair) (4 * k + 3) b.wires
-
--- the reason that is left when the bits of the first k entries are given up, from the last back
-unfoldable pub resolved_along : ℕ → List ℕ → ℕ → ℕ → ℕ
-resolved_along width trail zero reason = reason
-resolved_along width trail (suc k) reason =
-    resolved_along width trail k (resolved width reason (word_of (mask_at trail (4 * k))) (word_of (mask_at trail (4 * k + 2))))
+-- the reason that is left when the bits of these entries are given up, from the last back
+unfoldable pub resolved_along : ℕ → List Entry → ℕ → ℕ
+resolved_along width [] reason = reason
+resolved_along width (e ∷ entries) reason = resolved width (resolved_along width entries reason) (word_of e.reason) (word_of e.bit)
 
 -- long enough for every open bit
-abbrev pub LongEnough : ℕ → Setting → List ℕ → Type 0
-LongEnough width s trail = 4 * (width - ones s.bits) ≤ length trail
+abbrev pub LongEnough : ℕ → Setting → List Entry → Type 0
+LongEnough width s trail = width - ones s.bits ≤ length trail
 
 -- ---- what follows
 -- What r has settled beyond s follows from it: a word that passes and agrees with s agrees with r.

@@ -12,11 +12,10 @@ use Rattle.ic3.specs.Search.{states}
 use Rattle.call.specs.Call.{Stores, why_number, leaves, ended}
 use Rattle.search.specs.Lent.{store_of, part, why_of}
 use Rattle.call.specs.Promise.{stores}
-use Rattle.search.specs.Inner.{Finishes, Closes}
+use Rattle.search.specs.Inner.{Closes}
 use Rattle.search.specs.declared.react.Why.{Why}
 use Rattle.search.specs.declared.react.Verdict.{Verdict}
 use Rattle.search.specs.declared.react.Verdict.TheVariants.{Safe, Unsafe, GaveUp}
-use Rattle.call.specs.declared.Outcome.{Outcome}
 use Rattle.call.specs.declared.Outcome.TheVariants as call
 
 -- ---- parts
@@ -34,52 +33,34 @@ part_take k xs h = part_drop k 0 xs (omega arith)
 pub stores_same : {ss ss' ls ls' path path' : List ℕ} → ss ≡ ss' → ls ≡ ls' → path ≡ path' → stores ss ls path ≡ stores ss' ls' path'
 stores_same a l p = rw (a, l, p)
 
--- with `mid` for the states, keeping `front` of them and `len` of the path closes the verdict
-pub record Closable (s : Stores) (v : Verdict) (asked : ℕ) (mid : List ℕ) (front len : ℕ) (o : Outcome) : Type 0 where
-  pub same : length mid ≡ length s.states
-  pub finishes : Finishes front len (stores mid s.levels s.path)
-  pub closes : (after : Stores) → after ≡ leaves (stores mid s.levels s.path) (take front mid) (take len s.path)
-      → Closes s v asked o after
-
-module _ (s : Stores) (v : Verdict) (asked : ℕ) where
+module _ (s : Stores) (v : Verdict) (asked : ℕ) {after : Stores} where
   -- safe: the states kept stand at the front of a store as long as before
   pub closes_safe : (i count front : ℕ) (mid : List ℕ) → v ≡ Safe i count → take front mid ≡ states (leb i) (store_of count s.states s.levels)
-      → front ≤ length mid → length mid ≡ length s.states → Closable s v asked mid front 0 (call.Safe front asked)
+      → front ≤ length mid → length mid ≡ length s.states → after ≡ leaves (stores mid s.levels s.path) (take front mid) (take 0 s.path)
+      → Closes s v asked (call.Safe front asked) after
   unfolding ended leaves
-  closes_safe i count front mid q k h m =
+  closes_safe i count front mid q k h m e =
       let n = length-take-le front mid h in
-      record {
-        same = m;
-        finishes = record { states = h; path = omega arith };
-        closes = λ after e. rw q
-            (record {
-              equation = rw (sym k) (rw (e, over_front front (take front mid) mid n, over_same (take front mid) mid s.states m));
-              evidence_length = rw (sym k) (sym n);
-            });
-      }
+      rw q
+      (record {
+        equation = rw (sym k) (rw (e, over_front front (take front mid) mid n, over_same (take front mid) mid s.states m));
+        evidence_length = rw (sym k) (sym n);
+      })
 
   -- unsafe: the path stands at the front of its store
-  pub closes_unsafe : (k : ℕ) → v ≡ Unsafe k → k ≤ length s.path → Closable s v asked s.states 0 k (call.Unsafe k asked)
+  pub closes_unsafe : (k : ℕ) → v ≡ Unsafe k → k ≤ length s.path → after ≡ leaves s (take 0 s.states) (take k s.path)
+      → Closes s v asked (call.Unsafe k asked) after
   unfolding ended leaves
-  closes_unsafe k q h =
+  closes_unsafe k q h e =
       let n = length-take-le k s.path h in
-      record {
-        same = refl;
-        finishes = record { states = omega arith; path = h };
-        closes = λ after e. rw q
-            (record {
-              equation = rw (part_take k s.path h) (rw (e, over_front k (take k s.path) s.path n));
-              evidence_length = rw (part_take k s.path h) (sym n);
-            });
-      }
+      rw q
+      (record {
+        equation = rw (part_take k s.path h) (rw (e, over_front k (take k s.path) s.path n));
+        evidence_length = rw (part_take k s.path h) (sym n);
+      })
 
   -- given up, with a number of its own: nothing is left
   pub closes_given_up : (why : Why) (number : ℕ) → v ≡ GaveUp why → number ≡ why_number (why_of why)
-      → Closable s v asked s.states 0 0 (call.GaveUp number asked)
+      → after ≡ leaves s (take 0 s.states) (take 0 s.path) → Closes s v asked (call.GaveUp number asked) after
   unfolding ended leaves
-  closes_given_up why number q h =
-      record {
-        same = refl;
-        finishes = record { states = omega arith; path = omega arith };
-        closes = λ after e. rw q (record { equation = rw (h, e); evidence_length = refl });
-      }
+  closes_given_up why number q h e = rw q (record { equation = rw (h, e); evidence_length = refl })

@@ -6,13 +6,13 @@ use mathlib.Core.Path.{◌≡◌, refl}
 use native.Mathlib.Omega.{arith}
 use lib.ListN.{length, get_or, set, length-set}
 use lib.Seq.{get_or-set_same, get_or-set_other}
+use Rattle.std.specs.declared.ops.ControlFlow.TheVariants.{Continue, Break}
 use Rattle.ic3.specs.Search.{found, deeper}
 use Rattle.call.specs.Promise.{stores}
 use Rattle.search.specs.Lent.{store_of, part, duties, config}
 use Rattle.search.specs.Inner.{Moves, Opens}
 use Rattle.search.proofs.Windows.{duties_more, duties_end}
 use Rattle.search.specs.declared.react.Phase.TheVariants.{Settle}
-use Rattle.search.specs.declared.react.Move.TheVariants.{Go, Stop}
 use Rattle.search.specs.declared.react.Verdict.TheVariants.{Unsafe}
 
 -- what is written before a part leaves it as it is
@@ -29,13 +29,13 @@ duties_apart N k m v path h = part_apart (N - suc k) (suc (suc k)) m v path h
 
 module _ (count : ℕ) (ss ls path : List ℕ) where
   -- step 1
-  pub found_first : (s : ℕ) → 0 < length path → Moves (Stop (Unsafe 1)) (stores ss ls (set path 0 s)) (found 0 (store_of count ss ls) s)
+  pub found_first : (s : ℕ) → 0 < length path → Moves (Break (Unsafe 1)) (stores ss ls (set path 0 s)) (found 0 (store_of count ss ls) s)
   unfolding found part
   found_first s h = record { onward = rw (get_or-set_same path 0 s 0 h); bounded = simp length-set (omega arith) }
 
   -- step 2
   pub found_duty : (N s : ℕ) → (N ≡ 0 → ⊥) → N < length path
-      → Moves (Go (config N count (Settle (N - 1)))) (stores ss ls (set path N s)) (found N (store_of count ss ls) s)
+      → Moves (Continue (config N count (Settle (N - 1)))) (stores ss ls (set path N s)) (found N (store_of count ss ls) s)
   unfolding found
   found_duty zero s f h = absurd (f refl)
   found_duty (suc k) s f h =
@@ -47,7 +47,7 @@ module _ (count : ℕ) (ss ls path : List ℕ) where
 
   -- step 3 with k = 0: the path
   pub deeper_path : (N t : ℕ) → Opens N 0 path
-      → Moves (Stop (Unsafe (N + 1))) (stores ss ls (set path 0 t)) (deeper N (store_of count ss ls) 0 (get_or path 1 0) (duties N 0 path) t)
+      → Moves (Break (Unsafe (N + 1))) (stores ss ls (set path 0 t)) (deeper N (store_of count ss ls) 0 (get_or path 1 0) (duties N 0 path) t)
   unfolding deeper part duties
   deeper_path N t w =
       let e : N + 1 ≡ suc (suc (N - 1)) = omega (arith, w.below) in
@@ -63,7 +63,7 @@ module _ (count : ℕ) (ss ls path : List ℕ) where
 
   -- step 3 with k above 0
   pub deeper_duty : (N k t : ℕ) → (k ≡ 0 → ⊥) → Opens N k path
-      → Moves (Go (config N count (Settle (k - 1)))) (stores ss ls (set path k t))
+      → Moves (Continue (config N count (Settle (k - 1)))) (stores ss ls (set path k t))
       (deeper N (store_of count ss ls) k (get_or path (suc k) 0) (duties N k path) t)
   unfolding deeper
   deeper_duty N zero t f w = absurd (f refl)

@@ -11,17 +11,19 @@ use borrow.Author.Tests.{eqb-true, eqb-false, eq-eqb, ne_eqb, le-leb, lt-leb}
 use lib.Dec.{eqb}
 use lib.ListN.{length, get_or, set}
 use lib.Seq.{get_or-set_same, get_or-set_other}
+use Rattle.std.specs.Prelude.{Some, None}
+use Rattle.std.specs.declared.ops.ControlFlow.{ControlFlow}
+use Rattle.std.specs.declared.ops.ControlFlow.TheVariants.{Continue, Break}
 use Rattle.base.proofs.Tests.{test}
 use Rattle.ic3.specs.Search.{Entry, go, put, settled, fits, kept}
 use Rattle.call.specs.Call.{Stores}
+use Rattle.search.specs.declared.react.Verdict.{Verdict}
+use Rattle.search.specs.declared.react.Config.{Config}
 use Rattle.search.specs.Lent.{window, store_of, duties, config}
 use Rattle.search.specs.Inner.{Absent, FirstAt, KeptAs, Moves}
-use Rattle.search.specs.declared.store.Kept.TheVariants.{At, Full}
 use Rattle.search.specs.declared.react.Phase.TheVariants.{Look, Settle}
 use Rattle.search.specs.declared.react.Why.TheVariants.{NoRoom}
 use Rattle.search.specs.declared.react.Verdict.TheVariants.{GaveUp}
-use Rattle.search.specs.declared.react.Move.{Move}
-use Rattle.search.specs.declared.react.Move.TheVariants.{Go, Stop}
 use Rattle.search.proofs.Windows.{window_length, window_apart, duties_more, duties_end}
 
 -- the first entry has the state
@@ -87,14 +89,14 @@ fits_window room c ss ls st e h = rw (← e, window_length c 0 ss ls) (le-leb c 
 
 module _ (count r : ℕ) (ss ls : List ℕ) (s k : ℕ) (w : FirstAt ss 0 count s r) (c : count ≤ length ss) (l : length ls ≡ length ss) where
   -- s is stored: its level is changed, and nothing else
-  pub kept_raised : r < count → KeptAs ss ls count s k ss (set ls r k) (At count)
+  pub kept_raised : r < count → KeptAs ss ls count s k ss (set ls r k) (Some count)
   unfolding store_of
   kept_raised h =
       let e = put_found count 0 r ss ls s k (omega arith) (omega arith) (w.here h) w.before (omega arith) in
       record { fit = fits_window (length ss) count ss (set ls r k) (put (window count 0 ss ls) s k) e c; store = e; within = c }
 
   -- s is stored behind the others
-  pub kept_new : count ≤ r → count < length ss → KeptAs ss ls count s k (set ss count s) (set ls count k) (At (count + 1))
+  pub kept_new : count ≤ r → count < length ss → KeptAs ss ls count s k (set ss count s) (set ls count k) (Some (count + 1))
   unfolding store_of
   kept_new g h =
       let z : 0 + count ≡ count = omega arith in
@@ -108,7 +110,7 @@ module _ (count r : ℕ) (ss ls : List ℕ) (s k : ℕ) (w : FirstAt ss 0 count 
       })
 
   -- there is no room for s
-  pub kept_full : count ≤ r → length ss ≤ count → KeptAs ss ls count s k ss ls Full
+  pub kept_full : count ≤ r → length ss ≤ count → KeptAs ss ls count s k ss ls None
   unfolding store_of fits
   kept_full g h =
       let e : length (put (window count 0 ss ls) s k) ≡ suc count = put_grows count 0 ss ls s k (λ m u v. w.before m u (omega arith)) in
@@ -117,23 +119,23 @@ module _ (count r : ℕ) (ss ls : List ℕ) (s k : ℕ) (w : FirstAt ss 0 count 
 module _ (N k count : ℕ) (s : Stores) where
   -- the duty above the settled one again
   pub settled_more : k + 1 < N
-      → Moves (Go (config N count (Settle (k + 1)))) s (go (settled N (store_of count s.states s.levels) k (duties N k s.path)))
+      → Moves (Continue (config N count (Settle (k + 1)))) s (go (settled N (store_of count s.states s.levels) k (duties N k s.path)))
   unfolding settled
   settled_more h = record { onward = rw (add-one, duties_more N k s.path (omega arith)); bounded = tt }
 
   -- the settled duty was the last
   pub settled_last : N ≤ k + 1
-      → Moves (Go (config N count Look)) s (go (settled N (store_of count s.states s.levels) k (duties N k s.path)))
+      → Moves (Continue (config N count Look)) s (go (settled N (store_of count s.states s.levels) k (duties N k s.path)))
   unfolding settled
   settled_last h = record { onward = rw (duties_end N k s.path (omega arith)); bounded = tt }
 
 -- what fits is kept, and the duty settled
-pub kept_fits : (room N k : ℕ) (st now : List Entry) (ds : List ℕ) (r : Move) (s : Stores) → fits room st ≡ true → now ≡ st
+pub kept_fits : (room N k : ℕ) (st now : List Entry) (ds : List ℕ) (r : ControlFlow Verdict Config) (s : Stores) → fits room st ≡ true → now ≡ st
     → Moves r s (go (settled N now k ds)) → Moves r s (kept room N st k ds)
 unfolding kept
 kept_fits room N k st now ds r s f e g = rw (f, kept) (rw e at g)
 
 -- what does not fit ends the search
-pub kept_not : (room N k : ℕ) (st : List Entry) (ds : List ℕ) (s : Stores) → fits room st ≡ false → Moves (Stop (GaveUp NoRoom)) s (kept room N st k ds)
+pub kept_not : (room N k : ℕ) (st : List Entry) (ds : List ℕ) (s : Stores) → fits room st ≡ false → Moves (Break (GaveUp NoRoom)) s (kept room N st k ds)
 unfolding kept
 kept_not room N k st ds s f = record { onward = rw (f, kept); bounded = tt }

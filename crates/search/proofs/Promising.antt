@@ -108,6 +108,11 @@ module _ (y : System) {lent : Stores} (allowance : ℕ) (h : refused y lent ≡ 
         exists_m = (demand_3 rounds (model y)).exists;
       }
 
+-- stores that hold the same
+pub promised_same : {y : System} {lent after after' : Stores} {allowance : ℕ} {o : Outcome} → after' ≡ after
+    → Promised y lent allowance o after → Promised y lent allowance o after'
+promised_same e p = rw e p
+
 -- ---- the promise leaves no choice
 -- an outcome is what is said, with its number, questions and length of evidence
 outcome_of : Said → ℕ → ℕ → ℕ → Outcome

@@ -6,18 +6,20 @@ use mathlib.Core.Path.{◌≡◌, refl, sym, ◌∙◌}
 use native.Mathlib.Omega.{arith}
 use native.Mathlib.Numerals.{add-one}
 use lib.ListN.{take}
+use Rattle.std.specs.declared.ops.ControlFlow.{ControlFlow}
 use Rattle.ic3.specs.Search.{look, settle, wanted, at, put, round, found, deeper, kept, react, next}
 use Rattle.ic3.specs.Search as ic3
 use Rattle.system.specs.System.{System, model}
 use Rattle.question.specs.Question.{bad_in, step_in}
 use Rattle.call.specs.Call.{Stores, rounds}
+use Rattle.search.specs.declared.react.Verdict.{Verdict}
+use Rattle.search.specs.declared.react.Config.{Config}
 use Rattle.search.specs.Lent.{store_of}
 use Rattle.search.specs.Inner.{Asks, Moves}
-use Rattle.search.specs.declared.react.Move.{Move}
 use Rattle.search.proofs.Asked.{look_next, step_next}
 
 -- a move that is the definition's for the answer is the definition's for the question
-pub moves_to : {r : Move} {s : Stores} {m m' : ic3.Move} → m ≡ m' → Moves r s m → Moves r s m'
+pub moves_to : {r : ControlFlow Verdict Config} {s : Stores} {m m' : ic3.Move} → m ≡ m' → Moves r s m → Moves r s m'
 moves_to e w = record { onward = w.onward ∙ e; bounded = w.bounded }
 
 module _ (y : System) (count : ℕ) (ss ls : List ℕ) (a : Asks y.n count ss ls) (room N : ℕ) where

@@ -6,6 +6,7 @@ use mathlib.Core.Path.{◌≡◌, sym, ap, ◌∙◌}
 use native.Mathlib.Numerals.{add-one}
 use native.Mathlib.Omega.{arith}
 use lib.ListN.{length}
+use Rattle.std.specs.declared.ops.ControlFlow.TheVariants.{Continue, Break}
 use Rattle.ic3.specs.Search.{next, search_from}
 use Rattle.ic3.specs.Search as ic3
 use Rattle.ic3.proofs.From.{from_out, from_go, from_stop}
@@ -13,17 +14,33 @@ use Rattle.ic3.proofs.Shape.{next_keeps_shape}
 use Rattle.system.specs.System.{System, model}
 use Rattle.call.specs.Call.{Stores, rounds}
 use Rattle.call.proofs.Call.{Lengths}
-use Rattle.search.specs.Lent.{store_of, config, config_of}
-use Rattle.search.specs.Inner.{Asks, Raises, Lends, Ready, Moves, Ends}
+use Rattle.search.specs.declared.store.Lent.{Lent}
+use Rattle.search.specs.Lent.{stores_of, store_of, config, config_of}
+use Rattle.search.specs.Inner.{SameSlices, Asks, Raises, Lends, Ready, Moves, Ends}
 use Rattle.search.specs.declared.react.Verdict.{Verdict}
 use Rattle.search.specs.declared.react.Why.TheVariants.{Spent}
 use Rattle.search.specs.declared.react.Verdict.TheVariants.{GaveUp}
 use Rattle.search.specs.declared.react.Phase.{Phase}
 use Rattle.search.specs.declared.react.Phase.TheVariants.{Raise}
 use Rattle.search.specs.declared.react.Config.{Config}
-use Rattle.search.specs.declared.react.Move.TheVariants.{Go, Stop}
 use Rattle.search.proofs.Rounds.{level_entry}
 use Rattle.search.proofs.Windows.{window_length}
+
+-- the same slices are as long as before
+pub same_lengths : {s s' : Lent} → SameSlices s s' → Lengths (stores_of s) (stores_of s')
+same_lengths w = record { states = w.states_length; levels = w.levels_length; path = w.path_length }
+
+-- and stay the same from step to step
+pub slices_again : {s s' s'' : Lent} → SameSlices s s' → SameSlices s' s'' → SameSlices s s''
+slices_again w v =
+    record {
+      states = v.states ∙ w.states;
+      levels = v.levels ∙ w.levels;
+      path = v.path ∙ w.path;
+      states_length = v.states_length ∙ w.states_length;
+      levels_length = v.levels_length ∙ w.levels_length;
+      path_length = v.path_length ∙ w.path_length;
+    }
 
 -- stores of the same lengths hold a search as well
 pub lends_kept : {n room : ℕ} {s s' : Stores} → Lends n room s → Lengths s s' → Lends n room s'
@@ -75,7 +92,7 @@ module _ {y : System} {allowance : ℕ} {s₀ : Stores} {ending : ic3.Ending} {c
   room = length s₀.states
 
   -- the turn keeps the shape, in every system; and the rest of the run is one turn shorter
-  pub running_go : {d : Config} → asked < allowance → Moves (Go d) s' (next rounds (model y) room (config_of c s))
+  pub running_go : {d : Config} → asked < allowance → Moves (Continue d) s' (next rounds (model y) room (config_of c s))
       → Running y allowance s₀ ending d (asked + 1) s'
   running_go {d} h m =
       let left : allowance - asked ≡ suc (allowance - (asked + 1)) = omega arith in
@@ -96,7 +113,7 @@ module _ {y : System} {allowance : ℕ} {s₀ : Stores} {ending : ic3.Ending} {c
       }
 
   -- the ending of the turn is that of the run
-  pub running_stop : {v : Verdict} → asked < allowance → Moves (Stop v) s' (next rounds (model y) room (config_of c s))
+  pub running_stop : {v : Verdict} → asked < allowance → Moves (Break v) s' (next rounds (model y) room (config_of c s))
       → Ends y.n room ending v (asked + 1) s'
   running_stop h m =
       let left : allowance - asked ≡ suc (allowance - suc asked) = omega arith in

@@ -1,5 +1,7 @@
 -- What the private functions require and ensure, with a name for each fact. Nothing here has to be believed: no public promise mentions it.
-use Rattle.std.specs.Prelude.{ℕ, ◌+◌, ◌-◌, ◌≤◌, ◌<◌, true, false, List, ◌≡◌, eqb, leb, length, get_or, take}
+use Rattle.std.specs.Prelude.{Option, None, Some, ℕ, ◌+◌, ◌-◌, ◌≤◌, ◌<◌, true, false, List, ◌≡◌, eqb, leb, length, get_or, take}
+use Rattle.std.specs.declared.ops.ControlFlow.{ControlFlow}
+use Rattle.std.specs.declared.ops.ControlFlow.TheVariants.{Continue, Break}
 use Rattle.ic3.specs.Search.{put, states, fits, tested}
 use Rattle.ic3.specs.Search as ic3
 use Rattle.ic3.specs.Shape.{Tidy, Shape}
@@ -7,15 +9,22 @@ use Rattle.call.specs.Call.{Stores, ended, rounds}
 use Rattle.call.specs.Promise.{count_of, result_of}
 use Rattle.call.specs.declared.Outcome.{Outcome}
 use Rattle.search.specs.Lent.{window, store_of, config_of, verdict_of, move_of}
-use Rattle.search.specs.declared.store.Kept.{Kept}
-use Rattle.search.specs.declared.store.Kept.TheVariants.{At, Full}
+use Rattle.search.specs.declared.store.Lent.{Lent}
 use Rattle.search.specs.declared.react.Phase.{Phase}
 use Rattle.search.specs.declared.react.Phase.TheVariants.{Look, Settle, Raise}
 use Rattle.search.specs.declared.react.Config.{Config}
 use Rattle.search.specs.declared.react.Verdict.{Verdict}
 use Rattle.search.specs.declared.react.Verdict.TheVariants.{Safe, Unsafe, GaveUp}
-use Rattle.search.specs.declared.react.Move.{Move}
-use Rattle.search.specs.declared.react.Move.TheVariants.{Go, Stop}
+
+-- ---- the lent stores
+-- after is lent the same three slices as before, with whatever content
+pub record SameSlices (before after : Lent) : Type 0 where
+  pub states : after.states.ghost_name ≡ before.states.ghost_name
+  pub levels : after.levels.ghost_name ≡ before.levels.ghost_name
+  pub path : after.path.ghost_name ≡ before.path.ghost_name
+  pub states_length : length after.states.now ≡ length before.states.now
+  pub levels_length : length after.levels.now ≡ length before.levels.now
+  pub path_length : length after.path.now ≡ length before.path.now
 
 -- ---- the store
 -- `count` entries, in a state store and a level store of one length
@@ -34,11 +43,10 @@ pub record FirstAt (xs : List ℕ) (j count s r : ℕ) : Type 0 where
   pub here : r < count → get_or xs r 0 ≡ s
   pub before : Absent xs j r s
 
--- r is one more than the last index below j at which s stands, or 0
-pub record LastAt (xs : List ℕ) (j s r : ℕ) : Type 0 where
-  pub within : r ≤ j
-  pub here : 1 ≤ r → get_or xs (r - 1) 0 ≡ s
-  pub behind : Absent xs r j s
+-- the first index, if there is one
+abbrev pub First : List ℕ → ℕ → ℕ → ℕ → Option ℕ → Type 0
+First xs j count s None = FirstAt xs j count s count
+First xs j count s (Some r) = FirstAt xs j count s r × (r < count)
 
 -- a walk over the levels of `count` entries begins at entry j
 pub record Walks (ls : List ℕ) (count j : ℕ) : Type 0 where
@@ -52,9 +60,9 @@ pub record Stays (ss ls : List ℕ) (count s k : ℕ) (ss' ls' : List ℕ) (c : 
   pub within : c ≤ length ss
 
 -- s got level k, or there was no room
-abbrev pub KeptAs : List ℕ → List ℕ → ℕ → ℕ → ℕ → List ℕ → List ℕ → Kept → Type 0
-KeptAs ss ls count s k ss' ls' (At c) = Stays ss ls count s k ss' ls' c
-KeptAs ss ls count s k ss' ls' Full = fits (length ss) (put (store_of count ss ls) s k) ≡ false
+abbrev pub KeptAs : List ℕ → List ℕ → ℕ → ℕ → ℕ → List ℕ → List ℕ → Option ℕ → Type 0
+KeptAs ss ls count s k ss' ls' (Some c) = Stays ss ls count s k ss' ls' c
+KeptAs ss ls count s k ss' ls' None = fits (length ss) (put (store_of count ss ls) s k) ≡ false
 
 -- the levels from 1 up to below N are looked at, over `count` entries
 pub record Judges (ls : List ℕ) (count N : ℕ) : Type 0 where
@@ -86,12 +94,12 @@ Counted (Safe i count) s = count ≤ length s.levels
 Counted (Unsafe k) s = k ≤ length s.path
 Counted (GaveUp why) s = Unit {0}
 
-abbrev pub Bounded : Move → Stores → Type 0
-Bounded (Go c) s = Indexed c.phase c.count
-Bounded (Stop v) s = Counted v s
+abbrev pub Bounded : ControlFlow Verdict Config → Stores → Type 0
+Bounded (Continue c) s = Indexed c.phase c.count
+Bounded (Break v) s = Counted v s
 
 -- over the stores s as they are left, the move is the definition's
-pub record Moves (r : Move) (s : Stores) (move : ic3.Move) : Type 0 where
+pub record Moves (r : ControlFlow Verdict Config) (s : Stores) (move : ic3.Move) : Type 0 where
   pub onward : move_of r s ≡ move
   pub bounded : Bounded r s
 

@@ -2,9 +2,13 @@
 -- on. The store is the first `count` entries of the state store and the level store. The open duties stand in the path store, that of level k at
 -- index k.
 use Rattle.std.specs.Prelude.{ℕ, zero, suc, ◌-◌, List, [], ◌∷◌, eqb, leb, get_or}
+use Rattle.std.specs.declared.ops.ControlFlow.{ControlFlow}
+use Rattle.std.specs.declared.ops.ControlFlow.TheVariants.{Continue, Break}
 use Rattle.ic3.specs.Search.{Entry, look, settle, raise, at, no_room, spent, no_start, safe, unsafe, gave_up, go, stop, states}
 use Rattle.ic3.specs.Search as ic3
 use Rattle.call.specs.Call.{Stores}
+use Rattle.call.specs.Promise.{stores}
+use Rattle.search.specs.declared.store.Lent.{Lent}
 use Rattle.search.specs.declared.react.Phase.{Phase}
 use Rattle.search.specs.declared.react.Phase.TheVariants.{Look, Settle, Raise}
 use Rattle.search.specs.declared.react.Config.{Config}
@@ -12,8 +16,10 @@ use Rattle.search.specs.declared.react.Why.{Why}
 use Rattle.search.specs.declared.react.Why.TheVariants.{NoRoom, Spent, NoStart}
 use Rattle.search.specs.declared.react.Verdict.{Verdict}
 use Rattle.search.specs.declared.react.Verdict.TheVariants.{Safe, Unsafe, GaveUp}
-use Rattle.search.specs.declared.react.Move.{Move}
-use Rattle.search.specs.declared.react.Move.TheVariants.{Go, Stop}
+
+-- what the lent stores hold
+abbrev pub stores_of : Lent → Stores
+stores_of s = stores s.states.now s.levels.now s.path.now
 
 -- the `left` entries from index i on
 unfoldable pub window : ℕ → ℕ → List ℕ → List ℕ → List Entry
@@ -36,6 +42,10 @@ duties N k path = part (N - suc k) (suc (suc k)) path
 abbrev pub config : ℕ → ℕ → Phase → Config
 config N count phase = record { N = N; count = count; phase = phase }
 
+-- the store, as it lies in the lent stores
+abbrev pub store_in : Config → Lent → List Entry
+store_in c s = store_of c.count s.states.now s.levels.now
+
 abbrev pub phase_of : Phase → ℕ → ℕ → Stores → ic3.Phase
 phase_of Look N count s = look
 phase_of (Settle k) N count s = settle k (get_or s.path (suc k) 0) (duties N k s.path)
@@ -54,6 +64,6 @@ verdict_of (Safe i count) s = safe (states (leb i) (store_of count s.states s.le
 verdict_of (Unsafe length) s = unsafe (part length 0 s.path)
 verdict_of (GaveUp why) s = gave_up (why_of why)
 
-abbrev pub move_of : Move → Stores → ic3.Move
-move_of (Go c) s = go (config_of c s)
-move_of (Stop v) s = stop (verdict_of v s)
+abbrev pub move_of : ControlFlow Verdict Config → Stores → ic3.Move
+move_of (Continue c) s = go (config_of c s)
+move_of (Break v) s = stop (verdict_of v s)

@@ -9,105 +9,86 @@ mod store;
 mod turn;
 
 ghost use Rattle.std.specs.Prelude.{◌≡◌, take};
-ghost use Rattle.system.specs.System.{system_of};
-ghost use Rattle.call.specs.Call.{why_number, leaves};
+ghost use Rattle.system.specs.Lent.{system_in};
+ghost use Rattle.call.specs.Call.{leaves};
 ghost use Rattle.call.specs.Promise.{stores, Promised};
-ghost use Rattle.search.specs.Lent.{why_of};
-ghost use Rattle.search.specs.Inner.{Finishes, Closing, Closes};
+ghost use Rattle.search.specs.Lent.{stores_of};
+ghost use Rattle.search.specs.Inner.{SameSlices, Finishes, Closing, Closes};
 
-use question::Free;
-use react::{Verdict, Why};
-use store::keep;
-use turn::{Ending, searched};
+use base::Refusal;
+use react::Verdict;
+use store::Lent;
+use system::System;
+use turn::{Ending, Tabled};
 
-// The stores as they are left: the states start with `front` of their numbers and the path with `len` of its own, and everything else is zero.
-fn finish(states: &mut [u64], levels: &mut [u32], path: &mut [u64], front: usize, len: usize)
-    requires { Finishes front len (stores states.old levels.old path.old) }
-    ensures { stores states.new levels.new path.new
-        ≡ leaves (stores states.old levels.old path.old)
-        (take front states.old) (take len path.old) }
-{
-    stores::clear_behind(states, front);
-    stores::clear_levels(levels);
-    stores::clear_behind(path, len);
-}
-
-// The number of a search that gave up.
-fn number(why: Why) -> u32
-    ensures { result ≡ why_number (why_of why) }
-{
-    match why {
-        Why::Spent => 5,
-        Why::NoRoom => 6,
-        Why::NoStart => 14,
+impl Lent<'_> {
+    // The stores as they are left: the states start with `front` of their numbers and the path with `len` of its own, and everything else is zero.
+    fn finish(&mut self, front: usize, len: usize)
+        requires { Finishes front len (stores_of self.old) }
+        ensures left { stores_of self.new
+            ≡ leaves (stores_of self.old) (take front self.old.states.now) (take len self.old.path.now) }
+        ensures slices { SameSlices self.old self.new }
+    {
+        stores::clear_behind(self.states, front);
+        stores::clear(self.levels);
+        stores::clear_behind(self.path, len);
     }
-}
 
-// The stores are left with the evidence alone.
-fn close(states: &mut [u64], levels: &mut [u32], path: &mut [u64], ending: Ending) -> call::Outcome
-    requires { Closing ending.verdict (stores states.old levels.old path.old) }
-    ensures { Closes (stores states.old levels.old path.old) ending.verdict ending.questions
-        result (stores states.new levels.new path.new) }
-{
-    let questions = ending.questions;
-    let verdict = ending.verdict;
-    let mut front = 0;
-    let mut len = 0;
-    let mut outcome = call::Outcome::GaveUp(5, questions);
-    match verdict {
-        Verdict::Safe(i, count) => {
-            front = keep(states, levels, count, i);
-            outcome = call::Outcome::Safe(front, questions);
-        }
-        Verdict::Unsafe(k) => {
-            len = k;
-            outcome = call::Outcome::Unsafe(k, questions);
-        }
-        Verdict::GaveUp(why) => {
-            outcome = call::Outcome::GaveUp(number(why), questions);
+    // The stores are left with the evidence alone.
+    fn close(&mut self, ending: Ending) -> call::Outcome
+        requires { Closing ending.verdict (stores_of self.old) }
+        ensures closes { Closes (stores_of self.old) ending.verdict ending.questions result (stores_of self.new) }
+        ensures slices { SameSlices self.old self.new }
+    {
+        let questions = ending.questions;
+        match ending.verdict {
+            Verdict::Safe(i, count) => {
+                let front = self.keep(count, i);
+                self.finish(front, 0);
+                call::Outcome::Safe(front, questions)
+            }
+            Verdict::Unsafe(len) => {
+                self.finish(0, len);
+                call::Outcome::Unsafe(len, questions)
+            }
+            Verdict::GaveUp(why) => {
+                self.finish(0, 0);
+                call::Outcome::GaveUp(why.into(), questions)
+            }
         }
     }
-    finish(states, levels, path, front, len);
-    outcome
 }
 
 // The call of the scope.
 pub fn search(
-    n: u32,
-    w: u32,
-    start: &[u64],
-    step: &[u64],
-    bad: &[u64],
+    system: System,
     states: &mut [u64],
     levels: &mut [u32],
     path: &mut [u64],
     allowance: u32,
 ) -> call::Outcome
-    ensures { Promised (system_of n w start.now step.now bad.now)
+    ensures { Promised (system_in system.entry)
         (stores states.old levels.old path.old) allowance
         result (stores states.new levels.new path.new) }
 {
-    let refusal = system::refusal(n, w, start, step, bad);
-    if refusal != 0 {
-        return call::Outcome::Refused(refusal);
+    if let Err(refusal) = system.refusal() {
+        return call::Outcome::Refused(refusal.into());
     }
     if call::wrong_stores(states, levels, path) {
-        return call::Outcome::Refused(4);
+        return call::Outcome::Refused(Refusal::Stores.into());
     }
-    let step_table = order::table(step, w);
-    let bad_table = order::table(bad, w);
-    let f = Free { n, w };
-    let ending = searched(
-        f,
-        &step_table,
-        &bad_table,
-        start,
-        step,
-        bad,
+    let step_table = order::table(system.step, system.w);
+    let bad_table = order::table(system.bad, system.w);
+    let tabled = Tabled {
+        system,
+        step_table: &step_table,
+        bad_table: &bad_table,
+    };
+    let mut lent = Lent {
         states,
         levels,
         path,
-        allowance,
-    );
-    close(states, levels, path, ending)
+    };
+    let ending = tabled.searched(&mut lent, allowance);
+    lent.close(ending)
 }

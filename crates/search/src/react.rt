@@ -1,15 +1,16 @@
 // Where a search stands, and what an answer leads to: one function for each case of the definition's `react` and for the rounds of steps 4 and 5.
-// Each moves as the definition does, for all stores that it is not lent. Nothing is asked and nothing refused here; each function requires that its
-// indices lie within the stores, which the shape of a configuration gives.
-ghost use Rattle.std.specs.Prelude.{List, ℕ, suc, ◌-◌, ◌<◌, ◌≡◌, length, get_or};
+// Each moves as the definition does, from where the search stands, c, whose phase it follows; the stores are the lent ones. Nothing is asked and nothing
+// refused here; each function requires that its indices lie within the stores, which the shape of a configuration gives.
+ghost use Rattle.std.specs.Prelude.{suc, ◌-◌, ◌<◌, ◌≡◌, length, get_or};
+ghost use Rattle.std.specs.declared.ops.ControlFlow.TheVariants.{Continue};
 ghost use Rattle.ic3.specs.Search as ic3;
 ghost use Rattle.ic3.specs.Shape.{Tidy};
-ghost use Rattle.call.specs.Call.{Stores, rounds};
-ghost use Rattle.call.specs.Promise.{stores};
-ghost use Rattle.search.specs.Lent.{store_of, duties};
-ghost use Rattle.search.specs.Inner.{Opens, Blocks, Judges, Enters, Tests, Moves, tested_from};
+ghost use Rattle.call.specs.Call.{Stores, rounds, why_number};
+ghost use Rattle.search.specs.Lent.{stores_of, store_of, store_in, duties, config, why_of};
+ghost use Rattle.search.specs.Inner.{SameSlices, Opens, Blocks, Judges, Enters, Tests, Moves, tested_from};
 
-use super::store::{Kept, gap, last_at, next_at, store};
+use super::store::Lent;
+use std::ops::ControlFlow::{self, Break, Continue};
 
 // What the awaited question is asked for: step 2 (or 1); step 3 for the duty of level k + 1; step 4 at level i for entry j.
 // The open duties stand in the path store: index k holds the state of the open duty of level k, from the lowest that is open up to N. So a state
@@ -37,6 +38,19 @@ pub(super) enum Why {
     NoStart,
 }
 
+// Its number.
+impl From<Why> for u32 {
+    ghost from_gives = { λ why n. n ≡ why_number (why_of why) };
+
+    fn from(why: Why) -> u32 {
+        match why {
+            Why::Spent => 5,
+            Why::NoRoom => 6,
+            Why::NoStart => 14,
+        }
+    }
+}
+
 // How a search ends: safe, with the level from which on states are excluded and the number stored; unsafe, with the path's length; or given up.
 #[derive(Clone, Copy)]
 pub(super) enum Verdict {
@@ -45,12 +59,8 @@ pub(super) enum Verdict {
     GaveUp(Why),
 }
 
-// What an answer leads to.
-#[derive(Clone, Copy)]
-pub(super) enum Move {
-    Go(Config),
-    Stop(Verdict),
-}
+// What an answer leads to: where the search goes on, or how it ends.
+pub(super) type Move = ControlFlow<Verdict, Config>;
 
 // A number as wide as an index.
 pub(super) fn wide(k: u32) -> usize
@@ -59,130 +69,106 @@ pub(super) fn wide(k: u32) -> usize
     k as usize
 }
 
-// A bad state of R(N): the path, or the duty for level N.
-pub(super) fn found(path: &mut [u64], N: u32, count: usize, s: u64) -> Move
-    requires { N < length path.old }
-    ensures { (ss ls : List ℕ) → Moves result (stores ss ls path.new) (ic3.found N (store_of count ss ls) s) }
-{
-    path[wide(N)] = s;
-    if N == 0 {
-        return Move::Stop(Verdict::Unsafe(1));
+impl Config {
+    // The search goes on at `phase`.
+    fn at(self, phase: Phase) -> Move
+        ensures { result ≡ Continue (config self.N self.count phase) }
+    {
+        Continue(Config { phase, ..self })
     }
-    Move::Go(Config {
-        N,
-        count,
-        phase: Phase::Settle(N - 1),
-    })
-}
 
-// Step 3, a state t of R(k) steps to the state of the duty for level k + 1.
-pub(super) fn deeper(path: &mut [u64], N: u32, count: usize, k: u32, t: u64) -> Move
-    requires { Opens N k path.old }
-    ensures { (ss ls : List ℕ) → Moves result (stores ss ls path.new)
-        (ic3.deeper N (store_of count ss ls) k (get_or path.old (suc k) 0) (duties N k path.old) t) }
-{
-    path[wide(k)] = t;
-    if k == 0 {
-        return Move::Stop(Verdict::Unsafe(wide(N) + 1));
-    }
-    Move::Go(Config {
-        N,
-        count,
-        phase: Phase::Settle(k - 1),
-    })
-}
-
-// A duty for level k + 1 is settled: the duty above it again, or step 2 if it was the last.
-fn settled(N: u32, count: usize, k: u32) -> Move
-    requires { k < N }
-    ensures { (s : Stores) → Moves result s (ic3.go (ic3.settled N (store_of count s.states s.levels) k (duties N k s.path))) }
-{
-    if k + 1 < N {
-        return Move::Go(Config {
-            N,
-            count,
-            phase: Phase::Settle(k + 1),
-        });
-    }
-    Move::Go(Config {
-        N,
-        count,
-        phase: Phase::Look,
-    })
-}
-
-// Step 3, no state of R(k) steps to s: it gets level k + 1.
-pub(super) fn blocked(
-    states: &mut [u64],
-    levels: &mut [u32],
-    N: u32,
-    count: usize,
-    k: u32,
-    s: u64,
-) -> Move
-    requires { Blocks N k count states.old levels.old }
-    ensures { (path : List ℕ) → Moves result (stores states.new levels.new path)
-        (ic3.kept (length states.old) N (ic3.put (store_of count states.old levels.old) s (suc k)) k (duties N k path)) }
-{
-    let r = store(states, levels, count, s, k + 1);
-    match r {
-        Kept::At(c) => settled(N, c, k),
-        Kept::Full => Move::Stop(Verdict::GaveUp(Why::NoRoom)),
+    // A duty for level k + 1 is settled: the duty above it again, or step 2 if it was the last.
+    fn settled(self, k: u32) -> Move
+        requires { k < self.N }
+        ensures { (s : Stores) → Moves result s (ic3.go (ic3.settled self.N (store_of self.count s.states s.levels) k (duties self.N k s.path))) }
+    {
+        if k + 1 < self.N {
+            return self.at(Phase::Settle(k + 1));
+        }
+        self.at(Phase::Look)
     }
 }
 
-// Step 5.
-fn judge(levels: &[u32], N: u32, count: usize) -> Move
-    requires { Judges levels.now count N }
-    ensures { (ss path : List ℕ) → Moves result (stores ss levels.now path) (ic3.judge N (N - 1) 1 (store_of count ss levels.now)) }
-{
-    let i = gap(levels, count, N);
-    if i < N {
-        return Move::Stop(Verdict::Safe(i, count));
+impl Lent<'_> {
+    // A bad state of R(N): the path, or the duty for level N.
+    pub(super) fn found(&mut self, c: Config, s: u64) -> Move
+        requires { c.N < length self.old.path.now }
+        ensures moves { Moves result (stores_of self.new) (ic3.found c.N (store_in c self.old) s) }
+        ensures slices { SameSlices self.old self.new }
+    {
+        self.path[wide(c.N)] = s;
+        if c.N == 0 {
+            return Break(Verdict::Unsafe(1));
+        }
+        c.at(Phase::Settle(c.N - 1))
     }
-    Move::Go(Config {
-        N,
-        count,
-        phase: Phase::Look,
-    })
-}
 
-// Step 4 comes to level i: to its first entry, or, with no level left below N or no entry at this one, to step 5.
-pub(super) fn round(levels: &[u32], N: u32, count: usize, i: u32) -> Move
-    requires { Enters levels.now N count i }
-    ensures { (ss path : List ℕ) → Moves result (stores ss levels.now path)
-        (ic3.round rounds N (N - i) i (store_of count ss levels.now)) }
-{
-    if i == N {
-        return judge(levels, N, count);
+    // Step 3, a state t of R(k) steps to the state of the duty for level k + 1.
+    pub(super) fn deeper(&mut self, c: Config, k: u32, t: u64) -> Move
+        requires { Opens c.N k self.old.path.now }
+        ensures moves { Moves result (stores_of self.new)
+            (ic3.deeper c.N (store_in c self.old) k (get_or self.old.path.now (suc k) 0) (duties c.N k self.old.path.now) t) }
+        ensures slices { SameSlices self.old self.new }
+    {
+        self.path[wide(k)] = t;
+        if k == 0 {
+            return Break(Verdict::Unsafe(wide(c.N) + 1));
+        }
+        c.at(Phase::Settle(k - 1))
     }
-    let first = next_at(levels, count, 0, i);
-    if first < count {
-        return Move::Go(Config {
-            N,
-            count,
-            phase: Phase::Raise(i, first),
-        });
-    }
-    judge(levels, N, count)
-}
 
-// Step 4 at level i from entry j on. Where no entry is left to be tested, it goes on if one of those before j still sits there, and else step 5 decides.
-pub(super) fn tested(levels: &[u32], N: u32, count: usize, i: u32, j: usize) -> Move
-    requires { Tests levels.now N count i j }
-    ensures { (ss path : List ℕ) → Tidy (store_of count ss levels.now)
-        → Moves result (stores ss levels.now path) (tested_from N count i j ss levels.now) }
-{
-    let next = next_at(levels, count, j, i);
-    if next < count {
-        return Move::Go(Config {
-            N,
-            count,
-            phase: Phase::Raise(i, next),
-        });
+    // Step 3, no state of R(k) steps to s: it gets level k + 1.
+    pub(super) fn blocked(&mut self, c: Config, k: u32, s: u64) -> Move
+        requires { Blocks c.N k c.count self.old.states.now self.old.levels.now }
+        ensures moves { Moves result (stores_of self.new)
+            (ic3.kept (length self.old.states.now) c.N (ic3.put (store_in c self.old) s (suc k)) k (duties c.N k self.old.path.now)) }
+        ensures slices { SameSlices self.old self.new }
+    {
+        match self.store(c.count, s, k + 1) {
+            Some(count) => Config { count, ..c }.settled(k),
+            None => Break(Verdict::GaveUp(Why::NoRoom)),
+        }
     }
-    if 0 < last_at(levels, j, i) {
-        return round(levels, N, count, i + 1);
+
+    // Step 5.
+    fn judge(&self, c: Config) -> Move
+        requires { Judges self.now.levels.now c.count c.N }
+        ensures { Moves result (stores_of self.now) (ic3.judge c.N (c.N - 1) 1 (store_in c self.now)) }
+    {
+        let i = self.gap(c.count, c.N);
+        if i < c.N {
+            return Break(Verdict::Safe(i, c.count));
+        }
+        c.at(Phase::Look)
     }
-    judge(levels, N, count)
+
+    // Step 4 comes to level i: to its first entry, or, with no level left below N or no entry at this one, to step 5.
+    pub(super) fn round(&self, c: Config, i: u32) -> Move
+        requires { Enters self.now.levels.now c.N c.count i }
+        ensures { Moves result (stores_of self.now) (ic3.round rounds c.N (c.N - i) i (store_in c self.now)) }
+    {
+        if i == c.N {
+            return self.judge(c);
+        }
+        if let Some(first) = self.next_at(c.count, 0, i) {
+            return c.at(Phase::Raise(i, first));
+        }
+        self.judge(c)
+    }
+
+    // Step 4 at level i from entry j on. Where no entry is left to be tested, it goes on if one of those before j still sits there, and else step 5
+    // decides.
+    pub(super) fn tested(&self, c: Config, i: u32, j: usize) -> Move
+        requires { Tests self.now.levels.now c.N c.count i j }
+        ensures { Tidy (store_in c self.now)
+            → Moves result (stores_of self.now) (tested_from c.N c.count i j self.now.states.now self.now.levels.now) }
+    {
+        if let Some(next) = self.next_at(c.count, j, i) {
+            return c.at(Phase::Raise(i, next));
+        }
+        if self.sits_before(j, i) {
+            return self.round(c, i + 1);
+        }
+        self.judge(c)
+    }
 }

@@ -1,119 +1,111 @@
-// The store: `count` entries in order of first storing, an entry's state in the state store and, at the same index, its level in the level store.
-// Entries are stored anew behind the others or raised in place, and none is taken out. Nothing is refused: a full store is `Full`, and a walk that
-// finds nothing ends at the count. Every function requires that the entries lie within the lent stores, which holds for a search that was not
-// refused.
-ghost use Rattle.std.specs.Prelude.{◌≤◌, length};
-ghost use Rattle.search.specs.Inner.{Holds, Walks, Judges, FirstAt, LastAt, KeptAs, LeastGap, FrontOf};
+// The lent stores, and the store in them: `count` entries in order of first storing, an entry's state in the state store and, at the same index, its
+// level in the level store. Entries are stored anew behind the others or raised in place, and none is taken out. Nothing is refused: a full store and a
+// walk that finds nothing say `None`. Every method requires that the entries lie within the lent stores, which holds for a search that was not refused.
+ghost use Rattle.std.specs.Prelude.{◌≡◌, ◌≤◌, ◌↔◌, IsTrue, position, length, take};
+ghost use Rattle.std.specs.List.{Any};
+ghost use Rattle.search.specs.Inner.{SameSlices, Holds, Walks, Judges, First, KeptAs, LeastGap, FrontOf};
 
-// The number stored after a state got its level, or that there was no room.
-#[derive(Clone, Copy)]
-pub(super) enum Kept {
-    At(usize),
-    Full,
+// All the memory that a search has: the state store, the level store and the path store.
+#[derive(Drop)]
+pub(super) struct Lent<'a> {
+    pub(super) states: &'a mut [u64],
+    pub(super) levels: &'a mut [u32],
+    pub(super) path: &'a mut [u64],
 }
 
-// The first of the stored states that is s, or their number.
-fn index_of(states: &[u64], count: usize, s: u64) -> usize
-    requires { count ≤ length states.now }
-    ensures { FirstAt states.now 0 count s result }
+// The first index at which x stands.
+fn place_of<T: PartialEq>(xs: &[T], x: &T) -> Option<usize>
+    ensures { result ≡ position (λ y. T.eq y x.now) xs.now }
 {
-    let mut j = 0;
-    while j < count {
-        if states[j] == s {
-            return j;
+    xs.iter().position(|y| y == x)
+}
+
+impl Lent<'_> {
+    // The entry that has the state s.
+    fn entry_of(&self, count: usize, s: u64) -> Option<usize>
+        requires { Holds count self.now.states.now self.now.levels.now }
+        ensures { First self.now.states.now 0 count s result }
+    {
+        place_of(&self.states[..count], &s)
+    }
+
+    // s gets level k: its level is raised in place, or it is stored anew behind all others. The number stored then, if there was room.
+    pub(super) fn store(&mut self, count: usize, s: u64, k: u32) -> Option<usize>
+        requires { Holds count self.old.states.now self.old.levels.now }
+        ensures kept_as { KeptAs self.old.states.now self.old.levels.now count s k self.new.states.now self.new.levels.now result }
+        ensures path { self.new.path.now ≡ self.old.path.now }
+        ensures slices { SameSlices self.old self.new }
+    {
+        if let Some(j) = self.entry_of(count, s) {
+            self.levels[j] = k;
+            return Some(count);
         }
-        j += 1;
-    }
-    j
-}
-
-// s gets level k: its level is raised in place, or it is stored anew behind all others, if there is room.
-pub(super) fn store(states: &mut [u64], levels: &mut [u32], count: usize, s: u64, k: u32) -> Kept
-    requires { Holds count states.old levels.old }
-    ensures { KeptAs states.old levels.old count s k states.new levels.new result }
-{
-    let j = index_of(states, count, s);
-    if j < count {
-        levels[j] = k;
-        return Kept::At(count);
-    }
-    if count < states.len() {
-        states[count] = s;
-        levels[count] = k;
-        return Kept::At(count + 1);
-    }
-    Kept::Full
-}
-
-// The first entry from j on that sits at level i exactly, or the number of entries.
-pub(super) fn next_at(levels: &[u32], count: usize, j: usize, i: u32) -> usize
-    requires { Walks levels.now count j }
-    ensures { FirstAt levels.now j count i result }
-{
-    let mut k = j;
-    while k < count {
-        if levels[k] == i {
-            return k;
+        if count < self.states.len() {
+            self.states[count] = s;
+            self.levels[count] = k;
+            return Some(count + 1);
         }
-        k += 1;
+        None
     }
-    k
-}
 
-// One more than the index of the last entry before j that sits at level i exactly, or 0. Of those that a round has tested the last is the likeliest to
-// sit there still.
-pub(super) fn last_at(levels: &[u32], j: usize, i: u32) -> usize
-    requires { j ≤ length levels.now }
-    ensures { LastAt levels.now j i result }
-{
-    let mut k = j;
-    while 0 < k {
-        if levels[k - 1] == i {
-            return k;
-        }
-        k -= 1;
+    // The first entry from j on that sits at level i exactly.
+    pub(super) fn next_at(&self, count: usize, j: usize, i: u32) -> Option<usize>
+        requires { Walks self.now.levels.now count j }
+        ensures { First self.now.levels.now j count i result }
+    {
+        let further = place_of(&self.levels[j..count], &i)?;
+        Some(j + further)
     }
-    k
-}
 
-// The smallest level from 1 up to below N at which no stored state sits exactly, or N.
-pub(super) fn gap(levels: &[u32], count: usize, N: u32) -> u32
-    requires { Judges levels.now count N }
-    ensures { LeastGap levels.now count N result }
-{
-    let mut i: u32 = 1;
-    let level = 'levels: loop {
-        if i == N {
-            break N;
-        }
-        let mut j = 0;
-        loop {
-            if j == count {
-                break 'levels i;
+    // Whether an entry before j sits at level i exactly. Of those that a round has tested the last is the likeliest to sit there still.
+    pub(super) fn sits_before(&self, j: usize, i: u32) -> bool
+        requires { j ≤ length self.now.levels.now }
+        ensures { IsTrue result ↔ Any (λ l. l ≡ i) (take j self.now.levels.now) }
+    {
+        self.levels[..j].iter().rev().any(|level| *level == i)
+    }
+
+    // The smallest level from 1 up to below N at which no stored state sits exactly, or N.
+    pub(super) fn gap(&self, count: usize, N: u32) -> u32
+        requires { Judges self.now.levels.now count N }
+        ensures { LeastGap self.now.levels.now count N result }
+    {
+        let mut i: u32 = 1;
+        // Stays: the request names this form for this place: a loop over levels, with a walk inside that is left by label, yields the level (decision 140).
+        let level = 'levels: loop {
+            if i == N {
+                break N;
             }
-            if levels[j] == i {
-                break;
+            let mut j = 0;
+            loop {
+                if j == count {
+                    break 'levels i;
+                }
+                if self.levels[j] == i {
+                    break;
+                }
+                j += 1;
             }
-            j += 1;
-        }
-        i += 1;
-    };
-    level
-}
-
-// The states stored with a level of i or more come to the front, in their order; their number.
-pub(super) fn keep(states: &mut [u64], levels: &[u32], count: usize, i: u32) -> usize
-    requires { Holds count states.old levels.now }
-    ensures { FrontOf states.old levels.now count i states.new result }
-{
-    let mut kept = 0;
-    let mut j = 0;
-    while j < count {
-        if i <= levels[j] {
-            states[kept] = states[j];
-            kept += 1;
-        }
-        j += 1;
+            i += 1;
+        };
+        level
     }
-    kept
+
+    // The states stored with a level of i or more come to the front, in their order; their number.
+    pub(super) fn keep(&mut self, count: usize, i: u32) -> usize
+        requires { Holds count self.old.states.now self.old.levels.now }
+        ensures front { FrontOf self.old.states.now self.old.levels.now count i self.new.states.now result }
+        ensures levels { self.new.levels.now ≡ self.old.levels.now }
+        ensures path { self.new.path.now ≡ self.old.path.now }
+        ensures slices { SameSlices self.old self.new }
+    {
+        let mut kept = 0;
+        for j in 0..count {
+            if i <= self.levels[j] {
+                self.states[kept] = self.states[j];
+                kept += 1;
+            }
+        }
+        kept
+    }
 }

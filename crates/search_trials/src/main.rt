@@ -3,8 +3,16 @@
 // with full rounds asks of each system.
 #![tactic(auto)]
 
-mod counts;
 mod systems;
+mod tally;
+
+use call::Outcome;
+use checks::{Check, Stores};
+use counts::Counts;
+use evidence::Checked;
+use small_systems::Kind;
+use tables::{System, Table};
+use tally::{Known, Later, PLACES, Said, Seen};
 
 // How many systems, and where the numbers start.
 const SYSTEMS: u64 = 5440;
@@ -20,322 +28,165 @@ const BAD_SEED: u64 = 0xFF51_AFD7_ED55_8CCD;
 // What the stores hold beforehand.
 const FILLED: u64 = 9;
 
-// The room and the allowance of a call. The least room that suffices lies between low and high.
-#[derive(Clone, Copy)]
-pub struct Plan {
-    pub room: usize,
-    pub allowance: u32,
-    pub low: usize,
-    pub high: usize,
-}
+const FILLED_LEVEL: u32 = 9;
 
-fn said(outcome: call::Outcome) -> u64 {
-    match outcome {
-        call::Outcome::Safe(_, _) => counts::SAFE,
-        call::Outcome::Unsafe(_, _) => counts::UNSAFE,
-        call::Outcome::GaveUp(_, _) => counts::NEITHER,
-        call::Outcome::Refused(_) => counts::NEITHER,
-    }
-}
+// The largest room.
+const ROOM: usize = 1024;
 
-fn is_yes(checked: evidence::Checked) -> bool {
-    match checked {
-        evidence::Checked::Yes(_) => true,
-        evidence::Checked::No(_) => false,
-        evidence::Checked::Refused(_) => false,
-    }
-}
+// The entries of a table of 10 bits.
+const ENTRIES: usize = 1050624;
 
-// Whether the evidence check accepts the evidence. Where nothing was said there is none, and nothing to accept.
-fn check(said: u64, n: u32, start: &[u64], step: &[u64], bad: &[u64], list: &[u64]) -> bool {
-    match said {
-        counts::SAFE => is_yes(evidence::check_excluded(n, 0, start, step, bad, list)),
-        counts::UNSAFE => is_yes(evidence::check_path(n, 0, start, step, bad, list)),
-        _ => true,
-    }
-}
-
-// Whether the walk does.
-fn walk(said: u64, n: u32, table: &[bool], list: &[u64]) -> bool {
-    let right = match said {
-        counts::SAFE => small_systems::excludes(n, table, list),
-        counts::UNSAFE => small_systems::is_path(n, table, list),
-        _ => true,
+// Whether all lent is zero that is not evidence, of k states.
+fn is_cleared(check: Option<Check>, k: usize, stores: Stores) -> bool {
+    let (excluded, stepped) = match check {
+        Some(Check::Excluded) => (k, 0),
+        Some(Check::Path) => (0, k),
+        None => (0, 0),
     };
-    right & small_systems::are_states(n, list)
+    stores.states.iter().skip(excluded).all(|x| *x == 0)
+        && stores.levels.iter().all(|x| *x == 0)
+        && stores.path.iter().skip(stepped).all(|x| *x == 0)
 }
 
-// Whether entry j of the store is zero, if there is one.
-fn is_zero(store: &[u64], j: usize) -> bool {
-    if j < store.len() { store[j] == 0 } else { true }
-}
-
-fn level_zero(levels: &[u32], j: usize) -> bool {
-    if j < levels.len() {
-        levels[j] == 0
-    } else {
-        true
-    }
-}
-
-// Whether all lent is zero that is not evidence, of k states. The path store is the longest.
-fn cleared(states: &[u64], levels: &[u32], path: &[u64], said: u64, k: usize) -> bool {
-    let mut j = 0;
-    while j < path.len() {
-        let state = (said == counts::SAFE) & (j < k) | is_zero(states, j);
-        let step = (said == counts::UNSAFE) & (j < k) | is_zero(path, j);
-        if !(state & step & level_zero(levels, j)) {
-            return false;
-        }
-        j += 1;
-    }
-    true
-}
-
-// What a call did, as a number to begin a digest with.
-fn head(o: call::Outcome) -> u64 {
-    (call::number(o) % 16) as u64 | said(o) << 4 | (call::questions(o) as u64) << 8
-}
-
-// A call, looked at from every side.
-fn run(
-    n: u32,
-    start: &[u64],
-    step: &[u64],
-    bad: &[u64],
-    table: &[bool],
-    states: &mut [u64],
-    levels: &mut [u32],
-    path: &mut [u64],
-    allowance: u32,
-) -> counts::Seen {
-    let outcome = search::search(n, 0, start, step, bad, states, levels, path, allowance);
-    let list = call::evidence(states, path, outcome);
-    let said = said(outcome);
-    counts::Seen {
-        number: call::number(outcome),
-        said,
-        length: list.len(),
-        questions: call::questions(outcome),
-        digest: small_systems::digest(head(outcome), list),
-        check: check(said, n, start, step, bad, list),
-        walk: walk(said, n, table, list),
-        zero: cleared(states, levels, path, said, list.len()),
-    }
-}
-
-// Arrays for the stores. Functions of their own make them, so that the proof of who lends them need not look into them.
-fn filled() -> [u64; 1026] {
-    [FILLED; 1026]
-}
-
-fn filled_levels() -> [u32; 1026] {
-    [FILLED as u32; 1026]
-}
-
-// A call with stores of the planned room.
-fn lend(n: u32, start: &[u64], step: &[u64], bad: &[u64], table: &[bool], p: Plan) -> counts::Seen {
-    let mut states = filled();
-    let mut levels = filled_levels();
-    let mut path = filled();
-    let room = p.room % 1025;
-    let more = room + 2;
-    run(
-        n,
-        start,
-        step,
-        bad,
-        table,
-        &mut states[..room],
-        &mut levels[..room],
-        &mut path[..more],
-        p.allowance,
-    )
-}
-
-// Whether some state comes after s.
-fn goes_on(n: u32, table: &[bool], s: usize) -> bool {
-    let end = tables::size(n);
-    let mut t = 0;
-    while t < end {
-        if tables::is_step(n, table, s, t) {
-            return true;
-        }
-        t += 1;
-    }
-    false
-}
-
-// One more, if it is so.
-fn plus(count: usize, so: bool) -> usize {
-    std::num::wrapping_add_usize(count, counts::one(so) as usize)
-}
-
-// One state more is known.
-fn know(k: counts::Known, start: bool, bad: bool, on: bool, doom: u32) -> counts::Known {
-    counts::Known {
-        m: plus(k.m, !start & (doom != small_systems::NEVER)),
-        steps: if start & (doom < k.steps) {
-            doom
-        } else {
-            k.steps
+// What a call did, looked at from every side. Where nothing was said there is no evidence, and nothing to accept.
+fn look(s: System, table: Table, outcome: Outcome, stores: Stores) -> Seen {
+    let list = call::evidence(stores.states, stores.path, outcome);
+    let check = Check::of(outcome);
+    let number = call::number(outcome);
+    let questions = call::questions(outcome);
+    let head = u64::from(number % 16) | Check::number(check) << 4 | u64::from(questions) << 8;
+    Seen {
+        said: Said {
+            number,
+            check,
+            length: list.len(),
+            questions,
+            digest: small_systems::digest(head, list),
         },
-        starts: plus(k.starts, start),
-        bads: plus(k.bads, bad),
-        ends: plus(k.ends, !on),
-        full: k.full,
+        check: check.is_none_or(|check| matches!(check.ask(s, list), Ok(Checked::Yes(_)))),
+        walk: check.is_none_or(|check| check.holds(table, list))
+            && small_systems::are_states(s.n, list),
+        zero: is_cleared(check, list.len(), stores),
     }
+}
+
+// A call with so much room.
+fn call(s: System, table: Table, room: usize, allowance: u32) -> Seen {
+    let mut states = [FILLED; ROOM];
+    let mut levels = [FILLED_LEVEL; ROOM];
+    let mut path = [FILLED; ROOM + 2];
+    let room = room.min(ROOM);
+    let states = &mut states[..room];
+    let levels = &mut levels[..room];
+    let path = &mut path[..room + 2];
+    let outcome = search::search(checks::system_of(s), states, levels, path, allowance);
+    let stores = Stores {
+        states,
+        levels,
+        path,
+    };
+    look(s, table, outcome, stores)
 }
 
 // The questions of the next system with full rounds: four bytes of standard input, the high one first. 0 where there are none left.
 fn next_full() -> u32 {
-    let mut bytes = [0u8; 4];
+    let mut bytes = [0; 4];
     if io::read_full(0, &mut bytes) < 4 {
         return 0;
     }
-    wide(bytes[0]) << 24 | wide(bytes[1]) << 16 | wide(bytes[2]) << 8 | wide(bytes[3])
+    u32::from_be_bytes(bytes)
 }
 
-fn wide(x: u8) -> u32 {
-    x as u32
+// Whether some state comes after s.
+fn goes_on(table: Table, s: usize) -> bool {
+    (0..tables::size(table.n)).any(|t| table.is_step(s, t))
 }
 
-fn survey(n: u32, table: &[bool], full: u32) -> counts::Known {
-    let mut doom = [0u32; 1024];
-    small_systems::distances(n, table, true, &mut doom);
-    let end = tables::size(n) % 1025;
-    let mut k = counts::Known {
-        m: 0,
-        steps: small_systems::NEVER,
-        starts: 0,
-        bads: 0,
-        ends: 0,
+fn survey(table: Table, full: u32) -> Known {
+    let mut doom = [None; 1024];
+    small_systems::distances(table, true, &mut doom);
+    let states = tables::size(table.n);
+    Known {
+        m: doom
+            .iter()
+            .take(states)
+            .enumerate()
+            .filter(|(s, steps)| steps.is_some() && !table.is_start(*s))
+            .count(),
+        steps: doom
+            .iter()
+            .take(states)
+            .enumerate()
+            .filter(|(s, _)| table.is_start(*s))
+            .filter_map(|(_, steps)| *steps)
+            .min(),
+        starts: (0..states).filter(|s| table.is_start(*s)).count(),
+        bads: (0..states).filter(|s| table.is_bad(*s)).count(),
+        ends: (0..states).filter(|s| !goes_on(table, *s)).count(),
         full,
-    };
-    let mut s = 0;
-    while s < end {
-        let start = tables::is_start(n, table, s);
-        let bad = tables::is_bad(n, table, s);
-        k = know(k, start, bad, goes_on(n, table, s), doom[s]);
-        s += 1;
-    }
-    k
-}
-
-// The call after the one with this number. From the third on the least room that suffices is looked for between low and high, halving.
-fn next_plan(p: Plan, m: usize, turn: u64, first: counts::Seen, seen: counts::Seen) -> Plan {
-    if turn < 2 {
-        let less = std::num::wrapping_sub_u32(first.questions, turn as u32);
-        return Plan {
-            room: m,
-            allowance: less,
-            low: 0,
-            high: m,
-        };
-    }
-    let up = std::num::wrapping_add_usize(p.room, 1);
-    let low = if (turn == 2) | (seen.number != 6) {
-        p.low
-    } else {
-        up
-    };
-    let high = if (turn == 2) | (seen.number == 6) {
-        p.high
-    } else {
-        p.room
-    };
-    Plan {
-        room: std::num::wrapping_add_usize(low, high) / 2,
-        allowance: counts::most(m),
-        low,
-        high,
     }
 }
 
-// All calls of a system: at most 3, and 11 to find the least room.
-fn calls(
-    counts: [u64; counts::PLACES],
-    n: u32,
-    start: &[u64],
-    step: &[u64],
-    bad: &[u64],
-    table: &[bool],
-    k: counts::Known,
-) -> [u64; counts::PLACES] {
-    let m = k.m;
-    let plan = Plan {
-        room: m,
-        allowance: counts::most(m),
-        low: 0,
-        high: m,
-    };
-    let first = lend(n, start, step, bad, table, plan);
-    let mut c = counts::enter(counts, k, 0, first, first);
-    let mut p = next_plan(plan, m, 0, first, first);
-    let mut turn = 1;
-    while turn < 16 && (turn < 3) | (p.low < p.high) {
-        let seen = lend(n, start, step, bad, table, p);
-        let entered = counts::enter(c, k, turn, first, seen);
-        c = entered;
-        p = next_plan(p, m, turn, first, seen);
-        turn += 1;
+// All calls of a system: the first, two that differ in their allowance, and some to find the least room that suffices.
+fn calls(counts: &mut Counts<PLACES>, s: System, table: Table, k: Known) {
+    let enough = tally::most(k.m);
+    let seen = call(s, table, k.m, enough);
+    let first = seen.said;
+    tally::enter_first(counts, k, seen);
+    let seen = call(s, table, k.m, first.questions);
+    tally::enter_later(counts, Later::Again, first, seen);
+    let seen = call(s, table, k.m, first.questions.wrapping_sub(1));
+    tally::enter_later(counts, Later::OneLess, first, seen);
+    // it lies between low and high
+    let mut low = 0;
+    let mut high = k.m;
+    while low < high {
+        let room = low + (high - low) / 2;
+        let seen = call(s, table, room, enough);
+        tally::enter_later(counts, Later::LessRoom, first, seen);
+        if seen.said.number == 6 {
+            low = room + 1;
+        } else {
+            high = room;
+        }
     }
-    counts::add(c, counts::ROOMS, p.high as u64)
+    counts.add(tally::ROOMS, high as u64);
 }
 
 // One system.
-fn trial(
-    counts: [u64; counts::PLACES],
-    table: &mut [bool],
-    n: u32,
-    kind: u64,
-    start: &[u64],
-    step: &[u64],
-    bad: &[u64],
-) -> [u64; counts::PLACES] {
-    tables::table(n, 0, start, step, bad, table);
-    let k = survey(n, table, next_full());
-    let c = counts::enter_system(counts, n, kind, k);
-    calls(c, n, start, step, bad, table, k)
+fn trial(counts: &mut Counts<PLACES>, s: System, kind: Kind, room: &mut [bool]) {
+    let table = s.table(room);
+    let k = survey(table, next_full());
+    tally::enter_system(counts, s, kind, k);
+    calls(counts, s, table, k);
 }
 
 // System number i.
-fn system(
-    counts: [u64; counts::PLACES],
-    table: &mut [bool],
-    i: u64,
-    shape: u64,
-) -> [u64; counts::PLACES] {
-    let mut start = [0u64; 4096];
-    let mut step = [0u64; 16384];
-    let mut bad = [0u64; 4096];
+fn system(counts: &mut Counts<PLACES>, i: u64, shape: u64, room: &mut [bool]) {
+    let mut start = [0; 4096];
+    let mut step = [0; 16384];
+    let mut bad = [0; 4096];
     let n = systems::bits_of(i);
-    let kind = systems::step_kind(n, i);
-    let many = systems::density(kind, n, kind, shape >> 24);
-    let a = systems::states_in(n, kind, shape >> 32, shape ^ START_SEED, &mut start);
-    let b = small_systems::fill(kind, many, n, 0, true, shape ^ STEP_SEED, &mut step);
-    let c = systems::states_in(n, kind, shape >> 40, shape ^ BAD_SEED, &mut bad);
-    trial(
-        counts,
-        table,
+    let steps = systems::steps_of(n, i, shape >> 24);
+    let starts = systems::states_beside(steps, shape >> 32);
+    let bads = systems::states_beside(steps, shape >> 40);
+    let s = System {
         n,
-        kind,
-        small_systems::front(&start, a),
-        small_systems::front(&step, b),
-        small_systems::front(&bad, c),
-    )
+        w: 0,
+        start: starts.fill(shape ^ START_SEED, &mut start),
+        step: steps.fill(shape ^ STEP_SEED, &mut step),
+        bad: bads.fill(shape ^ BAD_SEED, &mut bad),
+    };
+    trial(counts, s, steps.kind, room);
 }
 
 fn main() {
-    let mut counts = [0u64; counts::PLACES];
-    let mut table = [false; 1050624];
+    let mut counts = Counts::new();
+    let mut room = [false; ENTRIES];
     let mut seed = SEED;
-    let mut i = 0;
-    while i < SYSTEMS {
+    for i in 0..SYSTEMS {
         seed = small_systems::next(seed);
-        let entered = system(counts, &mut table, i, seed);
-        counts = entered;
-        i += 1;
+        system(&mut counts, i, seed, &mut room);
     }
-    counts::write(&counts);
+    tally::write(&counts);
 }

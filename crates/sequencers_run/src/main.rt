@@ -2,13 +2,16 @@
 // and what the three stores hold afterwards. The file `stdout` is worked out by hand from the scope.
 #![tactic(auto)]
 
+use counts::write_number;
+use system::System;
+
 // Start {0} and bad {3}, of two bits. A clause has four masks: bits wanted 1, bits wanted 0, wires wanted 1, wires wanted 0.
 const ZERO: [u64; 8] = [0, 1, 0, 0, 0, 2, 0, 0];
 
 const THREE: [u64; 8] = [1, 0, 0, 0, 2, 0, 0, 0];
 
 // 0→1→2→0, 3→3, in the clauses of the scope's example file.
-const RING: [u64; 24] = [
+const RING_STEPS: [u64; 24] = [
     0x2_0000_0000,
     0x0_0000_0001,
     0,
@@ -35,8 +38,8 @@ const RING: [u64; 24] = [
     0,
 ];
 
-// As RING, and 2→3: from 2 both later bits are the same.
-const LATE: [u64; 28] = [
+// As Ring, and 2→3: from 2 both later bits are the same.
+const LATE_STEPS: [u64; 28] = [
     0x2_0000_0000,
     0x0_0000_0001,
     0,
@@ -68,7 +71,7 @@ const LATE: [u64; 28] = [
 ];
 
 // 0→0, 2→1→3→0: later bit 1 is 1 from 1 alone, later bit 0 from 1 and 2.
-const CHAIN: [u64; 28] = [
+const CHAIN_STEPS: [u64; 28] = [
     0x2_0000_0002,
     0x0_0000_0001,
     0,
@@ -99,348 +102,283 @@ const CHAIN: [u64; 28] = [
     0,
 ];
 
-// Which list of Ring another one stands for.
-const START: u64 = 0;
+// A clause that no state fulfils.
+const FALSE: [u64; 4] = [0; 4];
 
-const STEP: u64 = 1;
+// The sequencers. What is not said of another system is as in Ring.
+const RING: System<'static> = System {
+    n: 2,
+    w: 0,
+    start: &ZERO,
+    step: &RING_STEPS,
+    bad: &THREE,
+};
 
-const BAD: u64 = 2;
+const LATE: System<'static> = System {
+    step: &LATE_STEPS,
+    ..RING
+};
+
+const CHAIN: System<'static> = System {
+    step: &CHAIN_STEPS,
+    ..RING
+};
+
+// What a call is lent: the lengths of its three stores, and how many questions it may ask.
+#[derive(Clone, Copy)]
+struct Lent {
+    states: usize,
+    levels: usize,
+    path: usize,
+    allowance: u32,
+}
+
+const USUAL: Lent = Lent {
+    states: 4,
+    levels: 4,
+    path: 6,
+    allowance: 1000,
+};
 
 // What the stores hold beforehand.
 const FILLED: u64 = 9;
 
-// The usual room and allowance.
-const ROOM: usize = 4;
+const FILLED_LEVEL: u32 = 9;
 
-const ENOUGH: u32 = 1000;
-
-fn write(text: &[u8]) {
-    io::write_all(1, text);
-}
-
-fn write_number(text: &[u8], number: u64) {
-    write(text);
-    io::print_decimal(1, number);
-}
+// The length of a whole store, longer than any that is lent.
+const STORE: usize = 65540;
 
 // A name and the numbers behind it, so many at most.
-fn write_front(name: &[u8], numbers: &[u64], most: usize) {
-    write(name);
-    let mut j = 0;
-    while j < numbers.len() && j < most {
-        write_number(b" ", numbers[j]);
-        j += 1;
+fn write_front<T: Copy + Into<u64>>(name: &[u8], numbers: &[T], most: usize) {
+    io::write_all(1, name);
+    for x in numbers.iter().take(most) {
+        write_number(b" ", (*x).into());
     }
 }
 
-// Level j, if there is one.
-fn write_level(levels: &[u32], j: usize) {
-    if j < levels.len() {
-        write_number(b" ", wide(levels[j]));
-    }
-}
-
-fn write_levels(levels: &[u32]) {
-    write(b"; levels");
-    write_level(levels, 0);
-    write_level(levels, 1);
-    write_level(levels, 2);
-    write_level(levels, 3);
-}
-
-fn wide(x: u32) -> u64 {
-    x as u64
-}
-
-fn write_verdict(outcome: call::Outcome) {
+fn verdict(outcome: call::Outcome) -> &'static [u8] {
     match outcome {
-        call::Outcome::Safe(_, _) => write(b" safe"),
-        call::Outcome::Unsafe(_, _) => write(b" unsafe"),
-        _ => write(b" neither"),
+        call::Outcome::Safe(_, _) => b" safe",
+        call::Outcome::Unsafe(_, _) => b" unsafe",
+        _ => b" neither",
     }
 }
 
 // What the line of a call has behind the name: of each store the front.
-fn write_line<'a>(outcome: call::Outcome, states: &'a [u64], levels: &[u32], path: &'a [u64]) {
-    write_number(b": ", wide(call::number(outcome)));
-    write_verdict(outcome);
-    write_number(b", questions ", wide(call::questions(outcome)));
+fn write_line(outcome: call::Outcome, states: &[u64], levels: &[u32], path: &[u64]) {
+    write_number(b": ", u64::from(call::number(outcome)));
+    io::write_all(1, verdict(outcome));
+    write_number(b", questions ", u64::from(call::questions(outcome)));
     write_front(b", evidence", call::evidence(states, path, outcome), 6);
     write_front(b"; states", states, 4);
-    write_levels(levels);
+    write_front(b"; levels", levels, 4);
     write_front(b"; path", path, 6);
-    write(b"\n");
+    io::write_all(1, b"\n");
 }
 
-// One call and its line, behind the name.
-fn run(
-    n: u32,
-    w: u32,
-    start: &[u64],
-    step: &[u64],
-    bad: &[u64],
-    states: &mut [u64],
-    levels: &mut [u32],
-    path: &mut [u64],
-    allowance: u32,
-) {
-    let outcome = search::search(n, w, start, step, bad, states, levels, path, allowance);
+// A search in these stores, and its line.
+fn search(s: System, states: &mut [u64], levels: &mut [u32], path: &mut [u64], allowance: u32) {
+    let outcome = search::search(s, states, levels, path, allowance);
     write_line(outcome, states, levels, path);
 }
 
-// An array for a store, longer than any that is lent. A function of its own makes it, so that the proof of who lends it need not look into it.
-fn filled() -> [u64; 65540] {
-    [FILLED; 65540]
-}
-
-fn filled_levels() -> [u32; 65540] {
-    [FILLED as u32; 65540]
-}
-
-// A call with stores of these lengths.
-fn lend(
-    n: u32,
-    w: u32,
-    start: &[u64],
-    step: &[u64],
-    bad: &[u64],
-    room: usize,
-    others: usize,
-    most: usize,
-    allowance: u32,
-) {
-    let mut states = filled();
-    let mut levels = filled_levels();
-    let mut path = filled();
-    let room = room % 65540;
-    let others = others % 65540;
-    let most = most % 65540;
-    run(
-        n,
-        w,
-        start,
-        step,
-        bad,
-        &mut states[..room],
-        &mut levels[..others],
-        &mut path[..most],
-        allowance,
+// A call and its line, behind the name.
+fn lend(s: System, lent: Lent) {
+    let mut states = [FILLED; STORE];
+    let mut levels = [FILLED_LEVEL; STORE];
+    let mut path = [FILLED; STORE];
+    search(
+        s,
+        &mut states[..lent.states.min(STORE)],
+        &mut levels[..lent.levels.min(STORE)],
+        &mut path[..lent.path.min(STORE)],
+        lent.allowance,
     );
 }
 
-// A call with two bits, so many wires and the usual room.
-fn lend_usual(name: &[u8], w: u32, start: &[u64], step: &[u64], bad: &[u64]) {
-    write(name);
-    lend(2, w, start, step, bad, ROOM, ROOM, ROOM + 2, ENOUGH);
+fn call(name: &[u8], s: System, lent: Lent) {
+    io::write_all(1, name);
+    lend(s, lent);
 }
 
-// What of a call's room and allowance is not as usual.
-fn write_limits(room: usize, allowance: u32) {
-    if room != ROOM {
-        write_number(b", room ", room as u64);
-    }
-    if allowance != ENOUGH {
-        write_number(b", allowance ", wide(allowance));
-    }
-}
-
-// A call with this room and allowance, and the bad list of Ring.
-fn lend_room(name: &[u8], start: &[u64], step: &[u64], room: usize, allowance: u32) {
-    let bad = THREE;
-    let most = std::num::wrapping_add_usize(room, 2);
-    write(name);
-    write_limits(room, allowance);
-    lend(2, 0, start, step, &bad, room, room, most, allowance);
-}
-
-// Ring with other steps.
-fn lend_steps(name: &[u8], step: &[u64], room: usize, allowance: u32) {
-    let start = ZERO;
-    lend_room(name, &start, step, room, allowance);
-}
-
-// Ring without a start state.
-fn lend_nowhere(room: usize, allowance: u32) {
-    let start = [0u64; 4];
-    let step = RING;
-    lend_room(b"Ring, start false", &start, &step, room, allowance);
-}
-
-// Ring with wires and another list.
-fn lend_list(name: &[u8], w: u32, which: u64, list: &[u64]) {
-    let start = ZERO;
-    let step = RING;
-    let bad = THREE;
-    match which {
-        START => lend_usual(name, w, list, &step, &bad),
-        STEP => lend_usual(name, w, &start, list, &bad),
-        _ => lend_usual(name, w, &start, &step, list),
+// Stores that are as long as the room needs.
+fn room(room: usize) -> Lent {
+    Lent {
+        states: room,
+        levels: room,
+        path: room.saturating_add(2),
+        ..USUAL
     }
 }
 
-// Ring with a list of one clause.
-fn lend_clause(name: &[u8], which: u64, ones: u64, zeros: u64) {
-    let list = [ones, zeros, 0, 0];
-    lend_list(name, 0, which, &list);
-}
-
-fn lend_all_bad(name: &[u8]) {
-    let step = RING;
-    let none = [0u64; 0];
-    lend_usual(name, 0, &none, &step, &none);
+fn allowance(allowance: u32) -> Lent {
+    Lent { allowance, ..USUAL }
 }
 
 fn sequencers() {
-    let ring = RING;
-    let late = LATE;
-    lend_steps(b"Ring", &ring, ROOM, ENOUGH);
-    lend_steps(b"Late", &late, ROOM, ENOUGH);
-    lend_steps(b"Late", &late, 2, ENOUGH);
-    lend_steps(b"Late", &late, 1, ENOUGH);
-    lend_steps(b"Late", &late, ROOM, 17);
-    lend_steps(b"Late", &late, ROOM, 16);
-    lend_steps(b"Late", &late, ROOM, 0);
+    call(b"Ring", RING, USUAL);
+    call(b"Late", LATE, USUAL);
+    call(b"Late, room 2", LATE, room(2));
+    call(b"Late, room 1", LATE, room(1));
+    call(b"Late, allowance 17", LATE, allowance(17));
+    call(b"Late, allowance 16", LATE, allowance(16));
+    call(b"Late, allowance 0", LATE, allowance(0));
 }
 
 // The last question is that of the last round, which stops behind it.
 fn chains() {
-    let chain = CHAIN;
-    lend_steps(b"Chain", &chain, ROOM, ENOUGH);
-    lend_steps(b"Chain", &chain, 3, ENOUGH);
-    lend_steps(b"Chain", &chain, 2, ENOUGH);
-    lend_steps(b"Chain", &chain, ROOM, 21);
-    lend_steps(b"Chain", &chain, ROOM, 20);
+    call(b"Chain", CHAIN, USUAL);
+    call(b"Chain, room 3", CHAIN, room(3));
+    call(b"Chain, room 2", CHAIN, room(2));
+    call(b"Chain, allowance 21", CHAIN, allowance(21));
+    call(b"Chain, allowance 20", CHAIN, allowance(20));
 }
 
 fn other_lists() {
-    lend_all_bad(b"Ring, start and bad empty");
-    lend_clause(b"Ring, bad false", BAD, 0, 0);
-    lend_nowhere(ROOM, ENOUGH);
-    lend_nowhere(0, ENOUGH);
-    lend_nowhere(ROOM, 1);
-    lend_nowhere(ROOM, 0);
+    let all = System {
+        start: &[],
+        bad: &[],
+        ..RING
+    };
+    let nowhere = System {
+        start: &FALSE,
+        ..RING
+    };
+    call(b"Ring, start and bad empty", all, USUAL);
+    call(
+        b"Ring, bad false",
+        System {
+            bad: &FALSE,
+            ..RING
+        },
+        USUAL,
+    );
+    call(b"Ring, start false", nowhere, USUAL);
+    call(b"Ring, start false, room 0", nowhere, room(0));
+    call(b"Ring, start false, allowance 1", nowhere, allowance(1));
+    call(b"Ring, start false, allowance 0", nowhere, allowance(0));
 }
 
 // Each state steps to each: from the least with this bit 0 to the least with it 1. With no bit, start and bad are a false clause each.
-fn lend_free(n: u32, bit: u64) {
-    let start = [0u64, bit, 0, 0];
-    let step = [0u64; 0];
-    let bad = [bit, 0u64, 0, 0];
-    write_number(b"n = ", wide(n));
-    lend(n, 0, &start, &step, &bad, ROOM, ROOM, ROOM + 2, ENOUGH);
+fn free(name: &[u8], n: u32, bit: u64) {
+    let start = [0, bit, 0, 0];
+    let bad = [bit, 0, 0, 0];
+    let s = System {
+        n,
+        w: 0,
+        start: &start,
+        step: &[],
+        bad: &bad,
+    };
+    call(name, s, USUAL);
 }
 
 fn sizes() {
-    lend_free(1, 1);
-    lend_free(32, 0x8000_0000);
-    lend_free(0, 0);
-    lend_free(33, 1);
+    free(b"n = 1", 1, 1);
+    free(b"n = 32", 32, 0x8000_0000);
+    free(b"n = 0", 0, 0);
+    free(b"n = 33", 33, 1);
 }
 
-// Ring with this many wires, which no clause uses.
-fn lend_wires(w: u32) {
-    let start = ZERO;
-    let step = RING;
-    let bad = THREE;
-    write_number(b"Ring, w = ", wide(w));
-    lend_usual(b"", w, &start, &step, &bad);
+// Ring with so many wires and another list of start, of step, or of bad.
+// Stays: the three set a field each, which no parameter can name, and one function with a switch over the lists is longer than they are.
+fn start(name: &[u8], w: u32, start: &[u64]) {
+    call(name, System { w, start, ..RING }, USUAL);
+}
+
+fn step(name: &[u8], w: u32, step: &[u64]) {
+    call(name, System { w, step, ..RING }, USUAL);
+}
+
+fn bad(name: &[u8], w: u32, bad: &[u64]) {
+    call(name, System { w, bad, ..RING }, USUAL);
 }
 
 // Counts of masks that are no multiple of four.
 fn wrong_counts() {
-    let start = ZERO;
-    let step = RING;
-    let bad = THREE;
-    lend_list(b"one mask too few in start", 0, START, &start[..7]);
-    lend_list(b"two masks too few in step", 0, STEP, &step[..22]);
-    lend_list(b"three masks too few in bad", 0, BAD, &bad[..1]);
+    start(b"one mask too few in start", 0, &ZERO[..7]);
+    step(b"two masks too few in step", 0, &RING_STEPS[..22]);
+    bad(b"three masks too few in bad", 0, &THREE[..1]);
 }
 
-// A list of so many zero masks: all its clauses are false.
-fn lend_zeros(name: &[u8], which: u64, masks: usize) {
-    let list = [0u64; 16388];
-    let masks = masks % 16389;
-    lend_list(name, 0, which, &list[..masks]);
-}
-
-// There is no start state, no step, or no bad state.
+// Lists of zero masks, all of whose clauses are false: there is no start state, no step, or no bad state.
 fn many_clauses() {
-    lend_zeros(b"4096 start clauses", START, 16384);
-    lend_zeros(b"4097 start clauses", START, 16388);
-    lend_zeros(b"4096 step clauses", STEP, 16384);
-    lend_zeros(b"4097 step clauses", STEP, 16388);
-    lend_zeros(b"4096 bad clauses", BAD, 16384);
-    lend_zeros(b"4097 bad clauses", BAD, 16388);
+    let zeros = [0; 16388];
+    start(b"4096 start clauses", 0, &zeros[..16384]);
+    start(b"4097 start clauses", 0, &zeros);
+    step(b"4096 step clauses", 0, &zeros[..16384]);
+    step(b"4097 step clauses", 0, &zeros);
+    bad(b"4096 bad clauses", 0, &zeros[..16384]);
+    bad(b"4097 bad clauses", 0, &zeros);
 }
 
 fn bits() {
-    lend_clause(b"bit 2 in start", START, 0, 4);
-    lend_clause(b"later bit 0 in start", START, 0x1_0000_0000, 0);
-    lend_clause(b"bit 2 in step", STEP, 0, 4);
-    lend_clause(b"later bit 2 in step", STEP, 0x4_0000_0000, 0);
-    lend_clause(b"later bit 0 in bad", BAD, 0x1_0000_0000, 0);
-}
-
-// Ring with 3 wires and a list of one clause, a wire wanted 1.
-fn lend_wire(name: &[u8], which: u64, wire: u64) {
-    let list = [0, 0, wire, 0];
-    lend_list(name, 3, which, &list);
+    start(b"bit 2 in start", 0, &[0, 4, 0, 0]);
+    start(b"later bit 0 in start", 0, &[0x1_0000_0000, 0, 0, 0]);
+    step(b"bit 2 in step", 0, &[0, 4, 0, 0]);
+    step(b"later bit 2 in step", 0, &[0x4_0000_0000, 0, 0, 0]);
+    bad(b"later bit 0 in bad", 0, &[0x1_0000_0000, 0, 0, 0]);
 }
 
 // A wire that is wanted 1 can be: the clause says nothing, so every state is bad, or steps to every one.
 fn wires() {
-    lend_wires(64);
-    lend_wires(65);
-    lend_wire(b"wire 0 of 3 in start", START, 1);
-    lend_wire(b"wire 2 of 3 in step", STEP, 4);
-    lend_wire(b"wire 3 of 3 in step", STEP, 8);
-    lend_wire(b"wire 2 of 3 in bad", BAD, 4);
-    lend_wire(b"wire 3 of 3 in bad", BAD, 8);
+    call(b"Ring, w = 64", System { w: 64, ..RING }, USUAL);
+    call(b"Ring, w = 65", System { w: 65, ..RING }, USUAL);
+    start(b"wire 0 of 3 in start", 3, &[0, 0, 1, 0]);
+    step(b"wire 2 of 3 in step", 3, &[0, 0, 4, 0]);
+    step(b"wire 3 of 3 in step", 3, &[0, 0, 8, 0]);
+    bad(b"wire 2 of 3 in bad", 3, &[0, 0, 4, 0]);
+    bad(b"wire 3 of 3 in bad", 3, &[0, 0, 8, 0]);
 }
 
 // Ring with stores of these lengths, which stand behind the name.
-fn lend_stores(name: &[u8], room: usize, others: usize, most: usize) {
-    let start = ZERO;
-    let step = RING;
-    let bad = THREE;
-    write_number(name, room as u64);
-    write_number(b" ", others as u64);
-    write_number(b" ", most as u64);
-    lend(2, 0, &start, &step, &bad, room, others, most, ENOUGH);
+fn stores(name: &[u8], states: usize, levels: usize, path: usize) {
+    write_number(name, states as u64);
+    write_number(b" ", levels as u64);
+    write_number(b" ", path as u64);
+    lend(
+        RING,
+        Lent {
+            states,
+            levels,
+            path,
+            ..USUAL
+        },
+    );
 }
 
 // A path store of two more than the room is enough, one more is not.
 fn short_stores(name: &[u8]) {
-    lend_stores(name, 4, 4, 5);
-    lend_stores(name, 4, 3, 6);
-    lend_stores(name, 3, 4, 6);
-    lend_stores(name, 1, 1, 6);
-    lend_stores(name, 1, 1, 3);
-    lend_stores(name, 1, 1, 2);
-    lend_stores(name, 0, 0, 2);
-    lend_stores(name, 0, 0, 1);
+    stores(name, 4, 4, 5);
+    stores(name, 4, 3, 6);
+    stores(name, 3, 4, 6);
+    stores(name, 1, 1, 6);
+    stores(name, 1, 1, 3);
+    stores(name, 1, 1, 2);
+    stores(name, 0, 0, 2);
+    stores(name, 0, 0, 1);
 }
 
 // A room of 65,536 is the largest.
 fn long_stores(name: &[u8]) {
-    lend_stores(name, 65536, 65536, 65538);
-    lend_stores(name, 65537, 65537, 65539);
+    stores(name, 65536, 65536, 65538);
+    stores(name, 65537, 65537, 65539);
 }
 
-// Ring with this start list, a bad list that uses bit 2, and a path store that is too short.
-fn lend_wrong(name: &[u8], n: u32, start: &[u64]) {
-    let step = RING;
-    let bad = [4u64, 0, 0, 0];
-    write(name);
-    lend(n, 0, start, &step, &bad, ROOM, ROOM, ROOM + 1, ENOUGH);
-}
-
-// Several refusals apply: the least is given.
+// A bad list that uses bit 2, and a path store that is too short. Several refusals apply: the least is given.
 fn order() {
-    let start = ZERO;
-    lend_wrong(b"1, 2, 3 and 4", 0, &start[..1]);
-    lend_wrong(b"2, 3 and 4", 2, &start[..1]);
-    lend_wrong(b"3 and 4", 2, &start);
+    let lent = Lent { path: 5, ..USUAL };
+    let third = System {
+        bad: &[4, 0, 0, 0],
+        ..RING
+    };
+    let second = System {
+        start: &ZERO[..1],
+        ..third
+    };
+    call(b"1, 2, 3 and 4", System { n: 0, ..second }, lent);
+    call(b"2, 3 and 4", second, lent);
+    call(b"3 and 4", third, lent);
 }
 
 fn main() {

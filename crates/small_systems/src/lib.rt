@@ -1,57 +1,107 @@
-// Small random systems, of 1 to 10 bits and a few wires, and a walk over all their states, on the tables of `tables`. It shares no code with the crates that it is
-// compared with. Each function takes every argument.
+// Small random systems, of 1 to 10 bits and a few wires, and a walk over all their states, on the tables of `tables`. It shares no code with the crates
+// that it is compared with. Each function takes every argument.
 #![tactic(auto)]
 
-// What `distances` says of a state that no way leads to.
-pub const NEVER: u32 = 0xFFFF_FFFF;
+ghost use Rattle.std.specs.Prelude.{◌≡◌, ◌%◌, min};
+ghost use Rattle.small_systems.specs.Kind.{number_of};
+ghost use Rattle.small_systems.specs.Random.{next_of};
 
-// Kinds of lists. NOTHING is one clause of two zero masks, EVERYTHING the empty list. CLAUSES has as many short clauses as the density says. The
-// others give what is true explicitly, with a clause for each state or pair left out: SOME of them, by the density; steps to the next state alone;
-// these and from each state to itself; steps to no higher state. COUNTER has steps to the next state alone too, in a few clauses; with an odd density
-// the highest state has no next one, else 0 comes after it. Short clauses may use wires. GATES is a circuit: a wire is free or the AND of two
-// literals, and one step later each bit is as a literal; of states alone, that a literal is true.
-pub const NOTHING: u64 = 0;
+use tables::{Clause, Table};
 
-pub const EVERYTHING: u64 = 1;
+// Kinds of lists. Nothing is one clause of two zero masks, Everything the empty list. Clauses has as many short clauses as the density says. The
+// others give what is true explicitly, with a clause for each state or pair left out: Part of them, by the density; in a Chain steps to the next state
+// alone; in Loops these and from each state to itself; Down steps to no higher state; Barred is nothing. Counter has steps to the next state alone too, in a few clauses;
+// with an odd density the highest state has no next one, else 0 comes after it. Short clauses may use wires. Gates is a circuit: a wire is free or the
+// AND of two literals, and one step later each bit is as a literal; of states alone, that a literal is true.
+#[derive(Clone, Copy, Debug, PartialEq, Eq)]
+pub enum Kind {
+    Nothing,
+    Everything,
+    Part,
+    Clauses,
+    Chain,
+    Loops,
+    Down,
+    Counter,
+    Gates,
+    Barred,
+}
 
-pub const SOME: u64 = 2;
+// The kinds by their numbers; every number behind those of the others is Barred.
+impl From<u64> for Kind {
+    ghost from_gives = { λ n kind. number_of kind ≡ min n 9 };
 
-pub const CLAUSES: u64 = 3;
+    fn from(n: u64) -> Kind {
+        match n {
+            0 => Kind::Nothing,
+            1 => Kind::Everything,
+            2 => Kind::Part,
+            3 => Kind::Clauses,
+            4 => Kind::Chain,
+            5 => Kind::Loops,
+            6 => Kind::Down,
+            7 => Kind::Counter,
+            8 => Kind::Gates,
+            _ => Kind::Barred,
+        }
+    }
+}
 
-pub const CHAIN: u64 = 4;
+// One of the first eight kinds, from three random bits.
+pub fn kind_of(bits: u64) -> Kind
+    ensures { number_of result ≡ bits % 8 }
+{
+    Kind::from(bits % 8)
+}
 
-pub const LOOPS: u64 = 5;
-
-pub const DOWN: u64 = 6;
-
-pub const COUNTER: u64 = 7;
-
-pub const GATES: u64 = 8;
-
-const NONE: u64 = 0xFFFF_FFFF_FFFF_FFFF;
-
-// A clause, if one is to be written: bits wanted 1, bits wanted 0, wires wanted 1, wires wanted 0.
-#[derive(Clone, Copy)]
-pub struct Clause {
-    pub there: bool,
-    pub ones: u64,
-    pub zeros: u64,
-    pub on: u64,
-    pub off: u64,
+// What a random list is like: its kind and how dense it is, the bits and the wires that it may use, and whether it is of steps, or of states alone.
+#[derive(Clone, Copy, Debug)]
+pub struct Plan {
+    pub kind: Kind,
+    pub density: u64,
+    pub n: u32,
+    pub w: u32,
+    pub later: bool,
 }
 
 // A literal: a position of the pair, or a wire, and the value wanted there.
-#[derive(Clone, Copy)]
+#[derive(Clone, Copy, Debug)]
 struct Literal {
     pair: u64,
     wire: u64,
     one: bool,
 }
 
-// A clause that is to be written.
-fn written(ones: u64, zeros: u64) -> Clause {
+impl Literal {
+    // That wire k is 1.
+    fn wire(k: u64) -> Literal {
+        Literal {
+            pair: 0,
+            wire: 1 << (k % 64),
+            one: true,
+        }
+    }
+
+    // That bit k is 1 one step later.
+    fn later(k: u64) -> Literal {
+        Literal {
+            pair: 1 << (k % 32 + 32),
+            wire: 0,
+            one: true,
+        }
+    }
+
+    fn not(self) -> Literal {
+        Literal {
+            one: !self.one,
+            ..self
+        }
+    }
+}
+
+// A clause over the pair alone.
+fn over_pair(ones: u64, zeros: u64) -> Clause {
     Clause {
-        there: true,
         ones,
         zeros,
         on: 0,
@@ -61,55 +111,31 @@ fn written(ones: u64, zeros: u64) -> Clause {
 
 // The clause with a literal more.
 fn with(c: Clause, l: Literal) -> Clause {
-    let ones = if l.one { l.pair } else { 0 };
-    let on = if l.one { l.wire } else { 0 };
-    Clause {
-        there: c.there,
-        ones: c.ones | ones,
-        zeros: c.zeros | l.pair ^ ones,
-        on: c.on | on,
-        off: c.off | l.wire ^ on,
+    if l.one {
+        Clause {
+            ones: c.ones | l.pair,
+            on: c.on | l.wire,
+            ..c
+        }
+    } else {
+        Clause {
+            zeros: c.zeros | l.pair,
+            off: c.off | l.wire,
+            ..c
+        }
     }
 }
 
-// The clause, if it is so.
-fn only(there: bool, c: Clause) -> Clause {
-    Clause {
-        there,
-        ones: c.ones,
-        zeros: c.zeros,
-        on: c.on,
-        off: c.off,
-    }
-}
-
-// The literal of a wire, or of a bit one step later, wanted 1.
-fn of_wire(k: u64) -> Literal {
-    Literal {
-        pair: 0,
-        wire: 1 << (k % 64),
-        one: true,
-    }
-}
-
-fn of_later(k: u64) -> Literal {
-    Literal {
-        pair: 1 << (k % 32 + 32),
-        wire: 0,
-        one: true,
-    }
-}
-
-fn not(l: Literal) -> Literal {
-    Literal {
-        pair: l.pair,
-        wire: l.wire,
-        one: !l.one,
-    }
+// The clause that one of the literals is true.
+fn any_of(literals: &[Literal]) -> Clause {
+    literals.iter().fold(over_pair(0, 0), |c, l| with(c, *l))
 }
 
 // The next random number (xorshift).
-pub fn next(seed: u64) -> u64 {
+#[tactic(auto, unfolding(crate::specs::Random::next_of))]
+pub fn next(seed: u64) -> u64
+    ensures { result ≡ next_of seed }
+{
     let a = seed ^ (seed << 13);
     let b = a ^ (a >> 7);
     b ^ (b << 17)
@@ -117,258 +143,228 @@ pub fn next(seed: u64) -> u64 {
 
 // A digest of a list that begins with another.
 pub fn digest(seed: u64, list: &[u64]) -> u64 {
-    let mut d = seed;
-    let mut j = 0;
-    while j < list.len() {
-        d = next(d ^ list[j]);
-        j += 1;
-    }
-    d
+    list.iter().fold(seed, |d, x| next(d ^ *x))
 }
 
 // The first `count` numbers, or all if there are fewer.
-pub fn front<'a>(list: &'a [u64], count: usize) -> &'a [u64] {
-    if count <= list.len() {
-        &list[..count]
-    } else {
-        list
-    }
-}
-
-// Whether an explicit list is true of the state s with t one step later, or of s alone, where t is 0. With density d it is true of one half of d in
-// each row of 2^n on average.
-fn chosen(kind: u64, density: u64, n: u32, s: u64, t: u64, random: u64) -> bool {
-    let lucky = tables::low(n % 16 + 1, random >> 20) < density;
-    let up = std::num::wrapping_sub_u64(t, s);
-    let some = (kind == SOME) | (kind == DOWN) & (t <= s);
-    let chain = (kind == CHAIN) & (up == 1) | (kind == LOOPS) & (up < 2);
-    (kind == EVERYTHING) | some & lucky | chain
-}
-
-// A literal from eight random bits: the value, the place among n bits and behind them w wires, and, if later bits are allowed, whether a bit is one.
-fn of_bits(n: u32, w: u32, later: bool, bits: u64) -> Literal {
-    let one = bits % 2 == 1;
-    let wires = n as u64;
-    let all = wires + w as u64;
-    let place = if all == 0 { 0 } else { (bits >> 1) % 64 % all };
-    if place < wires {
-        let high = if later { (bits >> 2) & 32 } else { 0 };
-        return Literal {
-            pair: 1 << ((place | high) % 64),
-            wire: 0,
-            one,
-        };
-    }
-    Literal {
-        pair: 0,
-        wire: 1 << ((place - wires) % 64),
-        one,
-    }
-}
-
-// A clause of three literals, or of two, where the first comes twice.
-fn short(n: u32, w: u32, later: bool, random: u64) -> Clause {
-    let third = random >> ((random >> 24) % 2 * 16);
-    let c = with(written(0, 0), of_bits(n, w, later, random));
-    let c = with(c, of_bits(n, w, later, random >> 8));
-    with(c, of_bits(n, w, later, third))
-}
-
-// One of the three clauses that wire k is the AND of two literals of bits and lower wires; none, if it is free.
-fn gate(n: u32, k: u32, clause: u64, random: u64) -> Clause {
-    let a = of_bits(n, k, false, random >> 32);
-    let b = of_bits(n, k, false, random >> 40);
-    let x = of_wire(k as u64);
-    let c = match clause {
-        0 => with(with(written(0, 0), not(x)), a),
-        1 => with(with(written(0, 0), not(x)), b),
-        _ => with(with(with(written(0, 0), x), not(a)), not(b)),
-    };
-    only((random >> 48) % 4 != 0, c)
-}
-
-// One of the two clauses that bit k is one step later as a literal.
-fn latch(n: u32, w: u32, k: u64, clause: u64, random: u64) -> Clause {
-    let a = of_bits(n, w, false, random >> 32);
-    let t = of_later(k);
-    match clause {
-        0 => with(with(written(0, 0), not(t)), a),
-        1 => with(with(written(0, 0), t), not(a)),
-        _ => only(false, written(0, 0)),
-    }
-}
-
-// Clause j of a circuit: three for each wire, and three behind them for each bit; of states alone, one behind the wires.
-fn circuit(n: u32, w: u32, later: bool, j: u64, random: u64) -> Clause {
-    let wires = w as u64;
-    let k = j / 3;
-    if k < wires {
-        return gate(n, k as u32, j % 3, random);
-    }
-    if later {
-        return latch(n, w, k - wires, j % 3, random);
-    }
-    only(
-        j == wires * 3,
-        with(written(0, 0), of_bits(n, w, false, random >> 32)),
-    )
+pub fn front(list: &[u64], count: usize) -> &[u64] {
+    &list[..count.min(list.len())]
 }
 
 // Clause j of a counter, about bit i. If bit c, below it, is 0, then bit i stays; if all bits below it are 1, it changes. Behind them the clause that
 // the state is not the highest.
-fn counting(n: u32, j: u64) -> Clause {
+fn counting(n: u32, j: u64) -> Option<Clause> {
     let i = j / 32 % 32;
     let c = j / 2 % 16;
     let bit = 1 << i;
     let two = bit | bit << 32;
-    let below = tables::low(i as u32, NONE);
+    let below = tables::low(i as u32, u64::MAX);
     if i == (n % 16) as u64 {
-        return written(0, below);
+        return Some(over_pair(0, below));
     }
     if c == i {
-        if j % 2 == 0 {
-            return written(two, below);
-        }
-        return written(0, below | two);
+        return Some(if j % 2 == 0 {
+            over_pair(two, below)
+        } else {
+            over_pair(0, below | two)
+        });
     }
     let stays = 1 << c | bit << (j % 2 * 32);
-    only(c < i, written(stays, (stays | two) ^ stays))
+    (c < i).then_some(over_pair(stays, (stays | two) ^ stays))
 }
 
-// Clause j of an explicit list: that which is false of pair j, or state j, alone.
-fn explicit(kind: u64, density: u64, n: u32, later: bool, j: u64, random: u64) -> Clause {
-    let s = tables::low(n, j);
-    let t = j >> (n % 16);
-    let half = tables::low(n, NONE);
-    let all = if later { half | half << 32 } else { half };
-    let pair = s | t << 32;
-    only(
-        !chosen(kind, density, n, s, t, random),
-        written(all ^ pair, pair),
-    )
+impl Plan {
+    // Whether an explicit list is true of the state s with t one step later, or of s alone, where t is 0. With density d it is true of one half of d in
+    // each row of 2^n on average.
+    fn chosen(self, s: u64, t: u64, random: u64) -> bool {
+        let lucky = tables::low(self.n % 16 + 1, random >> 20) < self.density;
+        match self.kind {
+            Kind::Everything => true,
+            Kind::Part => lucky,
+            Kind::Down => lucky & (t <= s),
+            Kind::Chain => t.wrapping_sub(s) == 1,
+            Kind::Loops => t.wrapping_sub(s) < 2,
+            _ => false,
+        }
+    }
+
+    // A literal from eight random bits: the value, the place among n bits and behind them w wires, and, if later bits are allowed, whether a bit is one.
+    fn literal(self, bits: u64) -> Literal {
+        let one = bits % 2 == 1;
+        let wires = self.n as u64;
+        let all = wires + self.w as u64;
+        let place = if all == 0 { 0 } else { (bits >> 1) % 64 % all };
+        if place < wires {
+            let high = if self.later { (bits >> 2) & 32 } else { 0 };
+            return Literal {
+                pair: 1 << ((place | high) % 64),
+                wire: 0,
+                one,
+            };
+        }
+        Literal {
+            pair: 0,
+            wire: 1 << ((place - wires) % 64),
+            one,
+        }
+    }
+
+    // A literal of bits now and the first w wires.
+    fn now(self, w: u32, bits: u64) -> Literal {
+        Plan {
+            w,
+            later: false,
+            ..self
+        }
+        .literal(bits)
+    }
+
+    // A clause of three literals, or of two, where the first comes twice.
+    fn short(self, random: u64) -> Clause {
+        let third = random >> ((random >> 24) % 2 * 16);
+        any_of(&[
+            self.literal(random),
+            self.literal(random >> 8),
+            self.literal(third),
+        ])
+    }
+
+    // One of the three clauses that wire k is the AND of two literals of bits and lower wires; none, if it is free.
+    fn gate(self, k: u32, clause: u64, random: u64) -> Option<Clause> {
+        let a = self.now(k, random >> 32);
+        let b = self.now(k, random >> 40);
+        let x = Literal::wire(k as u64);
+        let c = match clause {
+            0 => any_of(&[x.not(), a]),
+            1 => any_of(&[x.not(), b]),
+            _ => any_of(&[x, a.not(), b.not()]),
+        };
+        ((random >> 48) % 4 != 0).then_some(c)
+    }
+
+    // One of the two clauses that bit k is one step later as a literal.
+    fn latch(self, k: u64, clause: u64, random: u64) -> Option<Clause> {
+        let a = self.now(self.w, random >> 32);
+        let t = Literal::later(k);
+        match clause {
+            0 => Some(any_of(&[t.not(), a])),
+            1 => Some(any_of(&[t, a.not()])),
+            _ => None,
+        }
+    }
+
+    // Clause j of a circuit: three for each wire, and three behind them for each bit; of states alone, one behind the wires.
+    fn circuit(self, j: u64, random: u64) -> Option<Clause> {
+        let wires = self.w as u64;
+        let k = j / 3;
+        if k < wires {
+            return self.gate(k as u32, j % 3, random);
+        }
+        if self.later {
+            return self.latch(k - wires, j % 3, random);
+        }
+        (j == wires * 3).then_some(any_of(&[self.now(self.w, random >> 32)]))
+    }
+
+    // Clause j of an explicit list: that which is false of pair j, or state j, alone.
+    fn explicit(self, j: u64, random: u64) -> Option<Clause> {
+        let s = tables::low(self.n, j);
+        let t = j >> (self.n % 16);
+        let half = tables::low(self.n, u64::MAX);
+        let all = if self.later { half | half << 32 } else { half };
+        let pair = s | t << 32;
+        (!self.chosen(s, t, random)).then_some(over_pair(all ^ pair, pair))
+    }
+
+    // Clause j of the list.
+    fn clause(self, j: u64, random: u64) -> Option<Clause> {
+        match self.kind {
+            Kind::Nothing => (j == 0).then_some(over_pair(0, 0)),
+            Kind::Clauses => Some(self.short(random)),
+            Kind::Counter => counting(self.n, j),
+            Kind::Gates => self.circuit(j, random),
+            _ => self.explicit(j, random),
+        }
+    }
+
+    // How many clauses the list can have.
+    fn most(self) -> u64 {
+        let bits = if self.later {
+            self.n % 16 * 2
+        } else {
+            self.n % 16
+        };
+        match self.kind {
+            Kind::Clauses => self.density % (1 << 32),
+            Kind::Counter => (self.n % 16 * 32) as u64 + self.density % 2,
+            Kind::Gates => (self.w % 64 + self.n % 16) as u64 * 3,
+            _ => 1 << (bits % 32),
+        }
+    }
+
+    // A random list, as far as there is room for it in the store. The three clauses about a wire or a bit come from one random number.
+    pub fn fill(self, seed: u64, store: &mut [u64]) -> &[u64] {
+        let mut random = seed;
+        let mut count = 0;
+        for j in 0..self.most() {
+            if (self.kind != Kind::Gates) | (j % 3 == 0) {
+                random = next(random);
+            }
+            if let Some(c) = self.clause(j, random) {
+                count = put(store, count, c);
+            }
+        }
+        front(store, count)
+    }
 }
 
-// Clause j of a list.
-fn made(kind: u64, density: u64, n: u32, w: u32, later: bool, j: u64, random: u64) -> Clause {
-    match kind {
-        NOTHING => only(j == 0, written(0, 0)),
-        CLAUSES => short(n, w, later, random),
-        COUNTER => counting(n, j),
-        GATES => circuit(n, w, later, j, random),
-        _ => explicit(kind, density, n, later, j, random),
-    }
-}
-
-// A clause written, if it is there and has room; the count of masks after it.
-fn put(list: &mut [u64], count: usize, c: Clause) -> usize {
-    if !c.there {
+// A clause written behind the first `count` masks, if it has room there; the count of masks after it.
+fn put(store: &mut [u64], count: usize, c: Clause) -> usize {
+    if store.len() < 4 || store.len() - 4 < count {
         return count;
     }
-    if list.len() <= count {
-        return count;
-    }
-    if list.len() - count < 4 {
-        return count;
-    }
-    list[count] = c.ones;
-    list[count + 1] = c.zeros;
-    list[count + 2] = c.on;
-    list[count + 3] = c.off;
+    store[count..count + 4].copy_from_slice(&[c.ones, c.zeros, c.on, c.off]);
     count + 4
 }
 
-// How many clauses a list can have.
-fn most(kind: u64, density: u64, n: u32, w: u32, later: bool) -> u64 {
-    let bits = if later { n % 16 * 2 } else { n % 16 };
-    match kind {
-        CLAUSES => density % (1 << 32),
-        COUNTER => (n % 16 * 32) as u64 + density % 2,
-        GATES => (w % 64 + n % 16) as u64 * 3,
-        _ => 1 << (bits % 32),
-    }
-}
-
-// A random list: of steps, or of states alone. The count of masks written. The three clauses about a wire or a bit come from one random number.
-pub fn fill(
-    kind: u64,
-    density: u64,
-    n: u32,
-    w: u32,
-    later: bool,
-    seed: u64,
-    list: &mut [u64],
-) -> usize {
-    let end = most(kind, density, n, w, later);
-    let mut random = seed;
-    let mut count = 0;
-    let mut j = 0;
-    while j < end {
-        random = if (kind == GATES) & (j % 3 != 0) {
-            random
-        } else {
-            next(random)
-        };
-        count = put(list, count, made(kind, density, n, w, later, j, random));
-        j += 1;
-    }
-    count
-}
-
-// Distance 0 for a start state, or for a bad one.
-fn first(n: u32, table: &[bool], back: bool, s: usize) -> u32 {
-    let first = if back {
-        tables::is_bad(n, table, s)
-    } else {
-        tables::is_start(n, table, s)
-    };
-    if first { 0 } else { NEVER }
-}
-
-fn begin(n: u32, table: &[bool], back: bool, dist: &mut [u32]) {
-    let mut s = 0;
-    while s < dist.len() {
-        dist[s] = first(n, table, back, s);
-        s += 1;
-    }
-}
-
 // A step from a state at distance d to one that had none. Whether it was so.
-fn reach(dist: &mut [u32], from: usize, to: usize, d: u32) -> bool {
-    if from < dist.len() && to < dist.len() {
-        if (dist[from] == d) & (dist[to] == NEVER) {
-            dist[to] = std::num::wrapping_add_u32(d, 1);
-            return true;
-        }
+fn reach(dist: &mut [Option<u32>], from: usize, to: usize, d: u32) -> bool {
+    let reached = from < dist.len()
+        && to < dist.len()
+        && dist[from] == Some(d)
+        && dist[to].is_none();
+    if reached {
+        dist[to] = Some(d.wrapping_add(1));
     }
-    false
+    reached
 }
 
-// Pair j, if it is a step, taken in its direction or back.
-fn follow(n: u32, table: &[bool], back: bool, dist: &mut [u32], j: usize, d: u32) -> bool {
-    let s = tables::low(n, j as u64) as usize;
-    let t = j >> (n % 16);
-    let from = if back { t } else { s };
-    tables::at(n, table, s, t) && reach(dist, from, s ^ t ^ from, d)
-}
-
-// All steps from states at distance d. Whether some state was reached.
-fn spread(n: u32, table: &[bool], back: bool, dist: &mut [u32], d: u32) -> bool {
-    let end = 1 << (n % 16 * 2);
+// All steps from states at distance d, taken in their direction or back. Whether some state was reached.
+fn spread(table: Table, back: bool, dist: &mut [Option<u32>], d: u32) -> bool {
     let mut some = false;
-    let mut j = 0;
-    while j < end {
-        some = follow(n, table, back, dist, j, d) | some;
-        j += 1;
+    for s in 0..tables::size(table.n) {
+        for t in 0..tables::size(table.n) {
+            let (from, to) = if back { (t, s) } else { (s, t) };
+            some |= table.at(s, t) && reach(dist, from, to, d);
+        }
     }
     some
 }
 
-// For each state the least number of steps from a start state to it; or, going back, from it to a bad one.
-pub fn distances(n: u32, table: &[bool], back: bool, dist: &mut [u32]) {
-    begin(n, table, back, dist);
+// For each state the least number of steps from a start state to it; or, going back, from it to a bad one. None, if there is no way.
+pub fn distances(table: Table, back: bool, dist: &mut [Option<u32>]) {
+    for (s, d) in dist.iter_mut().enumerate() {
+        let first = if back {
+            table.is_bad(s)
+        } else {
+            table.is_start(s)
+        };
+        *d = first.then_some(0);
+    }
     let mut d = 0;
+    // Stays: the edit `spreads_from_one_distance_for_ever` needs a loop that can stay at one distance, and a `for` cannot.
     while d < 65536 {
-        if !spread(n, table, back, dist, d) {
+        if !spread(table, back, dist, d) {
             return;
         }
         d += 1;
@@ -378,96 +374,59 @@ pub fn distances(n: u32, table: &[bool], back: bool, dist: &mut [u32]) {
 // Whether each number is below 2^n.
 pub fn are_states(n: u32, list: &[u64]) -> bool {
     let end = tables::size(n) as u64;
-    let mut j = 0;
-    while j < list.len() {
-        if end <= list[j] {
-            return false;
-        }
-        j += 1;
-    }
-    true
+    list.iter().all(|x| *x < end)
 }
 
-// Whether entry j counts at level i; one with no level beside it does.
-fn at_level(levels: &[u32], j: usize, i: u32) -> bool {
-    if j < levels.len() {
-        i <= levels[j]
-    } else {
-        true
-    }
-}
-
-// Whether the state is stored with a level of i or more.
+// Whether the state is stored with a level of i or more, or with no level beside it.
 pub fn is_stored(states: &[u64], levels: &[u32], i: u32, state: u64) -> bool {
-    let mut j = states.len();
-    while 0 < j {
-        j -= 1;
-        if state == states[j] && at_level(levels, j, i) {
-            return true;
-        }
-    }
-    false
+    states.iter().enumerate().any(|(j, x)| *x == state
+        && levels.get(j).is_none_or(|level| i <= *level))
 }
 
 // Which states are listed.
 fn mark(list: &[u64]) -> [bool; 1024] {
     let mut inside = [false; 1024];
-    let mut j = 0;
-    while j < list.len() {
-        let x = list[j];
+    for x in list {
+        let x = *x;
         if x < 1024 {
             inside[x as usize] = true;
         }
-        j += 1;
     }
     inside
 }
 
 // Whether s is listed and a start state, or not listed and bad, or steps into the list from outside, at t.
-fn breaks(n: u32, table: &[bool], inside: &[bool; 1024], s: usize, t: usize) -> bool {
+fn breaks(table: Table, inside: &[bool; 1024], s: usize, t: usize) -> bool {
     if inside[s % 1024] {
-        return tables::is_start(n, table, s);
+        return table.is_start(s);
     }
-    tables::is_bad(n, table, s) | inside[t % 1024] & tables::at(n, table, s, t)
+    table.is_bad(s) | inside[t % 1024] & table.at(s, t)
 }
 
 // Whether no start state is listed, every bad state is listed, and no state outside the list steps into it.
-pub fn excludes(n: u32, table: &[bool], list: &[u64]) -> bool {
+pub fn excludes(table: Table, list: &[u64]) -> bool {
     let inside = mark(list);
-    let end = 1 << (n % 16 * 2);
-    let mut j = 0;
-    while j < end {
-        if breaks(
-            n,
+    let n = table.n;
+    let pairs = 1 << (n % 16 * 2);
+    !(0..pairs).any(|j| {
+        breaks(
             table,
             &inside,
             tables::low(n, j) as usize,
             (j >> (n % 16)) as usize,
-        ) {
-            return false;
-        }
-        j += 1;
-    }
-    true
+        )
+    })
 }
 
 // Whether the path begins with a start state, each state steps to the next, and the last is bad.
-pub fn is_path(n: u32, table: &[bool], path: &[u64]) -> bool {
-    let mut last = 0;
-    let mut j = 0;
-    while j < path.len() {
-        let x = path[j];
-        let s = x as usize;
-        let right = if j == 0 {
-            tables::is_start(n, table, s)
-        } else {
-            tables::is_step(n, table, last, s)
-        };
-        if !right {
-            return false;
-        }
-        last = s;
-        j += 1;
-    }
-    (0 < j) & tables::is_bad(n, table, last)
+pub fn is_path(table: Table, path: &[u64]) -> bool {
+    let (Some(first), Some(last)) = (path.first(), path.last()) else {
+        return false;
+    };
+    table.is_start(*first as usize)
+        && path
+            .iter()
+            .zip(&path[1..])
+            .all(|(s, t)| table.is_step(*s as usize, *t as usize))
+        && table.is_bad(*last as usize)
 }

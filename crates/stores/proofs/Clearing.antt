@@ -1,31 +1,23 @@
 -- Clearing a store: zeros grow from the front, one number at a time. A tail that was lent and cleared leaves the front as it was, and where there
 -- is none the front is all. Assumes nothing.
-use Prim.Native.Nat.{ℕ, ◌+◌, ◌-◌, ◌≤◌, ◌<◌}
-use mathlib.Core.List.{List, ◌++◌, append-nil}
-use mathlib.Core.Path.{◌≡◌, sym, ◌∙◌}
+use Prim.Native.Nat.{ℕ, zero, suc, ◌+◌, ◌-◌, ◌≤◌, ◌<◌}
+use mathlib.Core.List.{List, [], ◌∷◌, ◌++◌, append-nil}
+use mathlib.Core.Path.{◌≡◌, refl, sym, ap}
 use native.Mathlib.Nat.{le_refl}
 use native.Mathlib.Omega.{arith}
-use borrow.Author.Fill.{fill_more}
+use native.Mathlib.Numerals.{add-one}
 use borrow.Rule.Slice.PartMut.{mid_of, put_mid, mid_len, Post-is}
-use lib.ListN.{length, set, take, drop, replicate, length-set}
+use lib.ListN.{length, set, take, drop, replicate}
 use lib.Seq.{drop-length, take_all}
 
--- what the loop of clearing keeps: the store is j zeros, and behind them what it was
-pub record Cleared (before store : List ℕ) (j : ℕ) : Type 0 where
-  pub within : j ≤ length before
-  pub same : length store ≡ length before
-  pub zeros : store ≡ replicate j 0 ++ drop j before
+-- one more of a store is v, behind j of them
+cleared_suc : {A : Type 0} (j : ℕ) (v : A) (d : List A) → j < length d → set (replicate j v ++ drop j d) j v ≡ replicate (suc j) v ++ drop (suc j) d
+cleared_suc j v [] h = absurd (omega arith)
+cleared_suc zero v (x ∷ d) h = refl
+cleared_suc (suc j) v (x ∷ d) h = ap (λ t. v ∷ t) (cleared_suc j v d (omega arith))
 
--- one number more is zero
-pub cleared_more : {before store : List ℕ} {j : ℕ} → Cleared before store j → j < length before → Cleared before (set store j 0) (j + 1)
-cleared_more {before} {store} {j} c h =
-    record { within = omega arith; same = simp length-set c.same; zeros = rw c.zeros (fill_more j 0 before h) }
-
--- all numbers are zero
-pub cleared_all : {before store : List ℕ} {j : ℕ} → Cleared before store j → length before ≤ j → store ≡ replicate (length before) 0
-cleared_all {before} {store} {j} c h =
-    let e : j ≡ length before = omega arith in
-    c.zeros ∙ rw (e, drop-length) (append-nil _)
+pub cleared_more : {A : Type 0} (j : ℕ) (v : A) (d : List A) → j < length d → set (replicate j v ++ drop j d) j v ≡ replicate (j + 1) v ++ drop (j + 1) d
+cleared_more j v d h = rw add-one (cleared_suc j v d h)
 
 -- a tail that was lent, cleared and came back
 pub tail_cleared : (k : ℕ) (xs ys : List ℕ) → k ≤ length xs → ys ≡ replicate (length (mid_of k (length xs - k) xs)) 0

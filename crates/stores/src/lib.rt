@@ -1,28 +1,34 @@
-// Lent stores are cleared: all of one, or what stands behind its front. Rattle has no function over two widths, so states and levels have one each;
-// what they promise is one.
+// Lent stores are cleared: all of one, of states or of levels, or what stands behind its front.
 #![tactic(auto)]
 
 ghost use Rattle.std.specs.Prelude.{◌≡◌, ◌++◌, ◌-◌, length, replicate, take};
 
-// Everything becomes zero.
-pub fn clear(store: &mut [u64])
-    ensures { store.new ≡ replicate (length store.old) 0 }
-{
-    let mut j = 0;
-    while j < store.len() {
-        store[j] = 0;
-        j += 1;
-    }
+// What stands in a store, and is zero where nothing does: states and levels.
+pub trait Zero: Copy {
+    ghost ZERO: { Self };
+
+    const ZERO: Self;
 }
 
-// Every level becomes zero.
-pub fn clear_levels(levels: &mut [u32])
-    ensures { levels.new ≡ replicate (length levels.old) 0 }
+impl Zero for u64 {
+    ghost ZERO = { 0 };
+
+    const ZERO: u64 = 0;
+}
+
+impl Zero for u32 {
+    ghost ZERO = { 0 };
+
+    const ZERO: u32 = 0;
+}
+
+// Everything becomes zero.
+pub fn clear<T: Zero>(store: &mut [T])
+    ensures { store.new ≡ replicate (length store.old) T.ZERO }
 {
-    let mut j = 0;
-    while j < levels.len() {
-        levels[j] = 0;
-        j += 1;
+    let zero = T::ZERO;
+    for x in store.iter_mut() {
+        *x = zero;
     }
 }
 

@@ -4,15 +4,46 @@
 #![tactic(auto)]
 
 ghost use Rattle.std.specs.Prelude.{◌≡◌, ◌^◌, ◌≤◌, leb};
-ghost use Rattle.system.specs.System.{clause_true, four_true, list_true, wrong_size, wrong_count, wrong_counts, wrong_mask, wrong_clause, wrong_bit, wrong_bits, system_of, refusal_of};
+ghost use Rattle.system.specs.System.{clause_true, four_true, list_true, wrong_size, wrong_count, wrong_counts, wrong_mask, wrong_clause, wrong_bit, wrong_bits, refusal_of};
+ghost use Rattle.system.specs.Lent.{system_in, clause_by};
+ghost use Rattle.base.specs.Numbers.{code_of};
 
+use base::Refusal;
 use masks::Mask;
+
+// A system of n state bits and w wires, whose lists are lent.
+#[derive(Clone, Copy)]
+pub struct System<'a> {
+    pub n: u32,
+    pub w: u32,
+    pub start: &'a [u64],
+    pub step: &'a [u64],
+    pub bad: &'a [u64],
+}
 
 // A clause: the bits and wires wanted 1, and those wanted 0.
 #[derive(Clone, Copy)]
 pub struct Clause {
     pub ones: Mask,
     pub zeros: Mask,
+}
+
+impl Clause {
+    // Of four masks in the order of a list.
+    pub fn new(ones: u64, zeros: u64, wire_ones: u64, wire_zeros: u64) -> Clause
+        ensures { result ≡ clause_by ones zeros wire_ones wire_zeros }
+    {
+        Clause {
+            ones: Mask {
+                pair: ones,
+                wires: wire_ones,
+            },
+            zeros: Mask {
+                pair: zeros,
+                wires: wire_zeros,
+            },
+        }
+    }
 }
 
 // Whether two masks are true of a word: a position wanted 1 is 1, or one wanted 0 is 0.
@@ -37,22 +68,12 @@ pub fn clause_true(c: Clause, word: Mask) -> bool
 pub fn list_true(list: &[u64], word: Mask) -> bool
     ensures { result ≡ list_true list.now word.pair word.wires }
 {
-    let mut i = 0;
-    while i + 3 < list.len() {
-        let c = Clause {
-            ones: Mask {
-                pair: list[i],
-                wires: list[i + 2],
-            },
-            zeros: Mask {
-                pair: list[i + 1],
-                wires: list[i + 3],
-            },
-        };
-        if !clause_true(c, word) {
+    let mut left = list;
+    while let [a, b, c, d, rest @ ..] = left {
+        if !clause_true(Clause::new(*a, *b, *c, *d), word) {
             return false;
         }
-        i += 4;
+        left = rest;
     }
     true
 }
@@ -89,44 +110,53 @@ fn reaches(k: u32, x: u64) -> bool
     k < 64 && masks::power(k) <= x
 }
 
-// Refusal 3, for one mask of the pair.
-fn wrong_mask(low: u32, high: u32, x: u64) -> bool
-    requires { (low ≤ 32) × (high ≤ 32) }
-    ensures { result ≡ wrong_mask low high x }
-{
-    reaches(low, x % HALF) || reaches(high, x / HALF)
+// What a list may use: bits below `low`, later ones below `high`, and wires below `wires`.
+#[derive(Clone, Copy)]
+struct Limits {
+    low: u32,
+    high: u32,
+    wires: u32,
+    ghost in_range: { (low ≤ 32) × (high ≤ 32) × (wires ≤ 64) },
 }
 
-// Refusal 3, for one clause.
-fn wrong_clause(low: u32, high: u32, wires: u32, a: u64, b: u64, c: u64, d: u64) -> bool
-    requires { (low ≤ 32) × (high ≤ 32) × (wires ≤ 64) }
-    ensures { result ≡ wrong_clause low high wires a b c d }
-{
-    wrong_mask(low, high, a)
-        || (wrong_mask(low, high, b) || (reaches(wires, c) || reaches(wires, d)))
-}
-
-// Refusal 3, for one list.
-fn wrong_bit(low: u32, high: u32, wires: u32, list: &[u64]) -> bool
-    requires { (low ≤ 32) × (high ≤ 32) × (wires ≤ 64) }
-    ensures { result ≡ wrong_bit low high wires list.now }
-{
-    let mut i = 0;
-    while i + 3 < list.len() {
-        if wrong_clause(
-            low,
-            high,
-            wires,
-            list[i],
-            list[i + 1],
-            list[i + 2],
-            list[i + 3],
-        ) {
-            return true;
-        }
-        i += 4;
+impl Limits {
+    fn of(low: u32, high: u32, wires: u32) -> Limits
+        requires { (low ≤ 32) × (high ≤ 32) × (wires ≤ 64) }
+        ensures low { result.low ≡ low }
+        ensures high { result.high ≡ high }
+        ensures wires { result.wires ≡ wires }
+    {
+        Limits { low, high, wires }
     }
-    false
+
+    // Refusal 3, for one mask of the pair.
+    fn wrong_mask(self, x: u64) -> bool
+        ensures { result ≡ wrong_mask self.low self.high x }
+    {
+        reaches(self.low, x % HALF) || reaches(self.high, x / HALF)
+    }
+
+    // Refusal 3, for one clause.
+    fn wrong_clause(self, a: u64, b: u64, c: u64, d: u64) -> bool
+        ensures { result ≡ wrong_clause self.low self.high self.wires a b c d }
+    {
+        self.wrong_mask(a)
+            || (self.wrong_mask(b) || (reaches(self.wires, c) || reaches(self.wires, d)))
+    }
+
+    // Refusal 3, for one list.
+    fn wrong_bit(self, list: &[u64]) -> bool
+        ensures { result ≡ wrong_bit self.low self.high self.wires list.now }
+    {
+        let mut left = list;
+        while let [a, b, c, d, rest @ ..] = left {
+            if self.wrong_clause(*a, *b, *c, *d) {
+                return true;
+            }
+            left = rest;
+        }
+        false
+    }
 }
 
 // Refusal 3. Start uses the state's bits alone, bad no later bit.
@@ -134,21 +164,33 @@ fn wrong_bits(n: u32, w: u32, start: &[u64], step: &[u64], bad: &[u64]) -> bool
     requires { (n ≤ 32) × (w ≤ 64) }
     ensures { result ≡ wrong_bits n w start.now step.now bad.now }
 {
-    wrong_bit(n, 0, 0, start) || (wrong_bit(n, n, w, step) || wrong_bit(n, 0, w, bad))
+    let of_start = Limits::of(n, 0, 0);
+    let of_step = Limits::of(n, n, w);
+    let of_bad = Limits::of(n, 0, w);
+    of_start.wrong_bit(start) || (of_step.wrong_bit(step) || of_bad.wrong_bit(bad))
 }
 
-// The number of the first refusal, 1 to 3, that applies to the system; 0 if none does.
-pub fn refusal(n: u32, w: u32, start: &[u64], step: &[u64], bad: &[u64]) -> u32
-    ensures { result ≡ refusal_of (system_of n w start.now step.now bad.now) }
-{
-    if wrong_size(n, w) {
-        return 1;
+impl<'a> System<'a> {
+    // The first refusal, 1 to 3, that applies to the system.
+    pub fn refusal(self) -> Result<(), Refusal>
+        ensures { code_of result ≡ refusal_of (system_in self.entry) }
+    {
+        let System {
+            n,
+            w,
+            start,
+            step,
+            bad,
+        } = self;
+        if wrong_size(n, w) {
+            return Err(Refusal::Size);
+        }
+        if wrong_counts(start, step, bad) {
+            return Err(Refusal::Masks);
+        }
+        if wrong_bits(n, w, start, step, bad) {
+            return Err(Refusal::Bits);
+        }
+        Ok(())
     }
-    if wrong_counts(start, step, bad) {
-        return 2;
-    }
-    if wrong_bits(n, w, start, step, bad) {
-        return 3;
-    }
-    0
 }

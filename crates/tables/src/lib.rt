@@ -2,11 +2,48 @@
 // crates that it is compared with. Each function takes every argument.
 #![tactic(auto)]
 
+ghost use Rattle.std.specs.Prelude.{◌≡◌, []};
+ghost use Rattle.tables.specs.declared.List.TheVariants.{Start, Step, Bad};
+
+// A clause: bits of the pair wanted 1, bits wanted 0, wires wanted 1, wires wanted 0.
+#[derive(Clone, Copy, Debug)]
+pub struct Clause {
+    pub ones: u64,
+    pub zeros: u64,
+    pub on: u64,
+    pub off: u64,
+}
+
+// A system: the bits of a state, the wires, and the three lists.
+#[derive(Clone, Copy, Debug)]
+pub struct System<'a> {
+    pub n: u32,
+    pub w: u32,
+    pub start: &'a [u64],
+    pub step: &'a [u64],
+    pub bad: &'a [u64],
+}
+
+// One of the three lists.
+#[derive(Clone, Copy, Debug, PartialEq, Eq)]
+pub enum List {
+    Start,
+    Step,
+    Bad,
+}
+
+// A system written out. The entries are rows of 2^n: row t says which states step to t by some setting of the wires, row 2^n which are start states, all
+// wires 0, the row after it which are bad by some setting.
+#[derive(Clone, Copy, Debug)]
+pub struct Table<'a> {
+    pub n: u32,
+    pub entries: &'a [bool],
+}
+
 // Whether a bit wanted 1 is 1 or one wanted 0 is 0, literal by literal from bit 0 up.
 fn masks_hold(ones: u64, zeros: u64, word: u64) -> bool {
     let mut left = ones | zeros;
-    let mut k = 0u64;
-    while k < 64 && 0 < left {
+    while 0 < left {
         let rest = left & (left - 1);
         let bit = left ^ rest;
         let wanted = if word & bit == 0 { zeros } else { ones };
@@ -14,42 +51,36 @@ fn masks_hold(ones: u64, zeros: u64, word: u64) -> bool {
             return true;
         }
         left = rest;
-        k += 1;
     }
     false
 }
 
 // Whether the clause is true of the pair and the wires.
-pub fn clause_holds(ones: u64, zeros: u64, on: u64, off: u64, pair: u64, wires: u64) -> bool {
-    masks_hold(ones, zeros, pair) || masks_hold(on, off, wires)
+pub fn clause_holds(c: Clause, pair: u64, wires: u64) -> bool {
+    masks_hold(c.ones, c.zeros, pair) || masks_hold(c.on, c.off, wires)
 }
 
 // Whether every clause is true of the pair and the wires. Fewer than four masks at the end are no clause.
 pub fn list_holds(list: &[u64], pair: u64, wires: u64) -> bool {
-    let mut j = 0;
-    while j < list.len() {
-        if list.len() - j < 4 {
-            return true;
-        }
-        if !clause_holds(list[j], list[j + 1], list[j + 2], list[j + 3], pair, wires) {
+    let mut clauses = list;
+    while let [ones, zeros, on, off, others @ ..] = clauses {
+        let c = Clause {
+            ones: *ones,
+            zeros: *zeros,
+            on: *on,
+            off: *off,
+        };
+        if !clause_holds(c, pair, wires) {
             return false;
         }
-        j += 4;
+        clauses = others;
     }
     true
 }
 
 // Whether some setting of the wires makes the list true of the pair: all settings are tried, of 6 wires at most.
 pub fn some_holds(w: u32, list: &[u64], pair: u64) -> bool {
-    let end = 1u64 << (w % 7);
-    let mut x = 0;
-    while x < end {
-        if list_holds(list, pair, x) {
-            return true;
-        }
-        x += 1;
-    }
-    false
+    (0..1 << (w % 7)).any(|wires| list_holds(list, pair, wires))
 }
 
 // The number of states.
@@ -62,47 +93,79 @@ pub fn low(n: u32, bits: u64) -> u64 {
     bits ^ ((bits >> (n % 16)) << (n % 16))
 }
 
-// Entry j of the table. The entries are rows of 2^n: row t says which states step to t by some setting of the wires, row 2^n which are start states,
-// all wires 0, the row after it which are bad by some setting.
-fn entry(n: u32, w: u32, start: &[u64], step: &[u64], bad: &[u64], j: usize) -> bool {
-    let row = j as u64 >> (n % 16);
-    let end = size(n) as u64;
-    let state = low(n, j as u64);
-    if row < end {
-        return some_holds(w, step, state | row << 32);
+impl<'a> System<'a> {
+    // A system with one list alone: the others are empty.
+    pub fn of_one(n: u32, w: u32, which: List, list: &'a [u64]) -> System<'a>
+        ensures sizes { (result.n ≡ n) × (result.w ≡ w) }
+        ensures start { which ≡ Start → (result.start.now ≡ list.now) × (result.step.now ≡ []) × (result.bad.now ≡ []) }
+        ensures step { which ≡ Step → (result.start.now ≡ []) × (result.step.now ≡ list.now) × (result.bad.now ≡ []) }
+        ensures bad { which ≡ Bad → (result.start.now ≡ []) × (result.step.now ≡ []) × (result.bad.now ≡ list.now) }
+    {
+        let none = System {
+            n,
+            w,
+            start: &[],
+            step: &[],
+            bad: &[],
+        };
+        match which {
+            List::Start => System {
+                start: list,
+                ..none
+            },
+            List::Step => System { step: list, ..none },
+            List::Bad => System { bad: list, ..none },
+        }
     }
-    if row == end {
-        list_holds(start, state, 0)
-    } else {
-        some_holds(w, bad, state)
+
+    // Entry j of the table.
+    fn entry(self, j: usize) -> bool {
+        let row = j as u64 >> (self.n % 16);
+        let end = size(self.n) as u64;
+        let state = low(self.n, j as u64);
+        if row < end {
+            some_holds(self.w, self.step, state | row << 32)
+        } else if row == end {
+            list_holds(self.start, state, 0)
+        } else {
+            some_holds(self.w, self.bad, state)
+        }
+    }
+
+    // The three lists written out, in 4^n + 2 * 2^n entries, as far as there is room. What is behind them stays.
+    pub fn table<'b>(self, out: &'b mut [bool]) -> Table<'b> {
+        let end = (1usize << (self.n % 16 * 2)).wrapping_add(2 << (self.n % 16));
+        for (j, x) in out.iter_mut().take(end).enumerate() {
+            *x = self.entry(j);
+        }
+        Table {
+            n: self.n,
+            entries: out,
+        }
     }
 }
 
-// The three lists written out, in 4^n + 2 * 2^n entries. What is behind them stays.
-pub fn table(n: u32, w: u32, start: &[u64], step: &[u64], bad: &[u64], out: &mut [bool]) {
-    let end = std::num::wrapping_add_usize(1 << (n % 16 * 2), 2 << (n % 16));
-    let mut j = 0;
-    while j < end && j < out.len() {
-        out[j] = entry(n, w, start, step, bad, j);
-        j += 1;
+impl<'a> Table<'a> {
+    // What row `row` says of state s.
+    pub fn at(self, s: usize, row: usize) -> bool {
+        let j = s | row << (self.n % 16);
+        if j < self.entries.len() {
+            self.entries[j]
+        } else {
+            false
+        }
     }
-}
 
-// What row `row` of the table says of state s.
-pub fn at(n: u32, table: &[bool], s: usize, row: usize) -> bool {
-    let j = s | row << (n % 16);
-    if j < table.len() { table[j] } else { false }
-}
+    pub fn is_start(self, s: usize) -> bool {
+        (s < size(self.n)) & self.at(s, size(self.n))
+    }
 
-pub fn is_start(n: u32, table: &[bool], s: usize) -> bool {
-    (s < size(n)) & at(n, table, s, size(n))
-}
+    // The row of the bad states is odd, as 2^n is even.
+    pub fn is_bad(self, s: usize) -> bool {
+        (s < size(self.n)) & self.at(s, size(self.n) | 1)
+    }
 
-// The row of the bad states is odd, as 2^n is even.
-pub fn is_bad(n: u32, table: &[bool], s: usize) -> bool {
-    (s < size(n)) & at(n, table, s, size(n) | 1)
-}
-
-pub fn is_step(n: u32, table: &[bool], s: usize, t: usize) -> bool {
-    (s < size(n)) & (t < size(n)) & at(n, table, s, t)
+    pub fn is_step(self, s: usize, t: usize) -> bool {
+        (s < size(self.n)) & (t < size(self.n)) & self.at(s, t)
+    }
 }

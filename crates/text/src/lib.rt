@@ -1,5 +1,5 @@
 // Texts by line, a reader that keeps a text and its place in it, and writing into a lent buffer. The work is done by `line_length`, over a plain slice,
-// and the two functions of the reader are thin.
+// and the two methods of the reader are thin.
 #![tactic(auto)]
 
 ghost use Rattle.std.specs.Prelude.{[], ◌∷◌, ◌≡◌, drop};
@@ -11,14 +11,12 @@ ghost use Rattle.text.specs.Writing.{laid};
 pub fn line_length(text: &[u8], at: usize) -> usize
     ensures { result ≡ line_length (drop at text.now) }
 {
-    let mut i = at;
-    while i < text.len() {
-        if text[i] == 10 {
+    for i in at..text.len() {
+        if text[i] == b'\n' {
             return i + 1 - at;
         }
-        i += 1;
     }
-    i - at
+    text.len().saturating_sub(at)
 }
 
 // A text, and the index of the next line.
@@ -28,21 +26,21 @@ pub struct Reader<'a> {
     pub at: usize,
 }
 
-// The whole text is still to be read.
-pub fn new<'a>(text: &'a [u8]) -> Reader<'a>
-    ensures { result ≡ opened text.entry }
-{
-    Reader { text, at: 0 }
-}
+impl<'a> Reader<'a> {
+    // The whole text is still to be read.
+    pub fn new(text: &'a [u8]) -> Reader<'a>
+        ensures { result ≡ opened text.entry }
+    {
+        Reader { text, at: 0 }
+    }
 
-// The next line is taken: the reader stands behind it, and stays where it is at the end of the text.
-pub fn next_line<'a>(r: Reader<'a>) -> Reader<'a>
-    ensures { result ≡ moved r.entry }
-{
-    let len = line_length(r.text, r.at);
-    Reader {
-        text: r.text,
-        at: r.at + len,
+    // The next line is taken: the reader stands behind it, and stays where it is at the end of the text.
+    pub fn next_line(self) -> Reader<'a>
+        ensures { result ≡ moved self.entry }
+    {
+        let Reader { text, at } = self;
+        let len = line_length(text, at);
+        Reader { text, at: at + len }
     }
 }
 

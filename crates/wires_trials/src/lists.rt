@@ -1,129 +1,82 @@
 // The states that step into each state of a system, listed and held against the table.
-use super::counts;
+use super::places;
+use super::places::PLACES;
+use super::systems::Case;
+use base::Refusal;
+use counts::Counts;
+use into::{Listing, Unlisted};
+use tables::Table;
 
 // What a store holds beforehand.
 const FILLED: u64 = 9;
 
-// What was found: how many states, and these in front of zeros.
-#[derive(Clone, Copy)]
-pub struct Row {
-    pub count: usize,
-    pub states: [u64; 33],
-}
+// Room for all states, and one more.
+const ROOM: usize = 33;
 
 // The states that step to t, by the table, from 0 up.
-fn row_of(n: u32, table: &[bool], t: usize) -> Row {
-    let mut states = [0u64; 33];
+fn row_of<'b>(table: Table, t: usize, room: &'b mut [u64; ROOM]) -> &'b [u64] {
+    let states = (0..32).filter(|s| table.is_step(*s, t));
     let mut count = 0;
-    let mut s = 0;
-    while s < 32 {
-        if count < 33 && tables::is_step(n, table, s, t) {
-            states[count] = s as u64;
-            count += 1;
-        }
-        s += 1;
+    for (k, (slot, s)) in room.iter_mut().zip(states).enumerate() {
+        *slot = s as u64;
+        count = k + 1;
     }
-    Row { count, states }
+    small_systems::front(room, count)
 }
 
-// Whether the store has the row in front and zeros behind, or, if there is no room for it, zeros alone.
-fn is_right(fits: bool, row: &[u64; 33], store: &[u64]) -> bool {
-    let mut j = 0;
-    while j < store.len() {
-        let wanted = if fits { row[j % 33] } else { 0 };
-        if store[j] != wanted {
-            return false;
-        }
-        j += 1;
+// What a call told, as a number: of the refusal, of the states and of the questions.
+// Stays: `number` of into_trials shifts otherwise, which the printed digests fix, and no crate below both programs knows `Listing` but the tested one.
+fn number(said: Result<Listing, Unlisted>) -> u64 {
+    match said {
+        Ok(listing) => (listing.count as u64) << 8 | (listing.questions as u64) << 16,
+        Err(unlisted) => u64::from(u32::from(unlisted.refusal)) | (unlisted.questions as u64) << 16,
     }
-    true
 }
 
-// What a call told and left in the store, held against the row.
-fn enter(counts: &mut [u64; counts::PLACES], said: into::Listing, store: &[u64], r: Row) {
-    let states = r.states;
-    let fits = r.count <= store.len();
-    let number = if fits { 0 } else { 30 };
-    let length = if fits { r.count } else { 0 };
-    let asked = if fits { r.count } else { store.len() };
-    let told = (said.number == number)
-        & (said.count == length)
-        & (std::num::wrapping_sub_usize(said.questions, asked) == 1);
-    let right = told & is_right(fits, &states, store);
-    let head = said.number as u64 | (said.count as u64) << 8 | (said.questions as u64) << 16;
-    counts::count(counts, counts::LISTED, said.number == 0);
-    counts::count(counts, counts::LISTS_REFUSED, said.number == 30);
-    counts::add(counts, counts::WRITTEN, said.count as u64);
-    counts::count(counts, counts::LISTS_WRONG, !right);
-    counts::stir(counts, counts::LISTS, small_systems::digest(head, store));
+// What a call told and left in the store, held against the row: it has the row in front and zeros behind, or, if there is no room for it, zeros alone.
+fn enter(counts: &mut Counts<PLACES>, said: Result<Listing, Unlisted>, store: &[u64], row: &[u64]) {
+    let fits = row.len() <= store.len();
+    let list = small_systems::front(row, if fits { row.len() } else { 0 });
+    let questions = row.len().min(store.len()).wrapping_add(1);
+    let wanted = if fits {
+        Ok(Listing {
+            count: row.len(),
+            questions,
+        })
+    } else {
+        Err(Unlisted {
+            refusal: Refusal::Store,
+            questions,
+        })
+    };
+    let left = store
+        .iter()
+        .enumerate()
+        .all(|(j, x)| *x == list.get(j).copied().unwrap_or(0));
+    match said {
+        Ok(listing) => {
+            counts.add(places::LISTED, 1);
+            counts.add(places::WRITTEN, listing.count as u64);
+        }
+        Err(unlisted) => counts.count(places::LISTS_REFUSED, unlisted.refusal == Refusal::Store),
+    }
+    counts.count(places::LISTS_WRONG, said != wanted || !left);
+    counts.stir(places::LISTS, small_systems::digest(number(said), store));
 }
 
-fn list(
-    counts: &mut [u64; counts::PLACES],
-    n: u32,
-    w: u32,
-    start: &[u64],
-    step: &[u64],
-    bad: &[u64],
-    state: u64,
-    store: &mut [u64],
-    r: Row,
-) {
-    let said = into::list(n, w, start, step, bad, state, store);
-    enter(counts, said, store, r);
-}
-
-// A function of its own makes the store, so that the proof of who lends it need not look into it.
-fn filled() -> [u64; 33] {
-    [FILLED; 33]
-}
-
-// Room for all states; for every fourth state room for two.
-fn room_for(t: usize) -> usize {
-    if t % 4 == 3 { 2 } else { 33 }
-}
-
-// One state.
-fn lend(
-    counts: &mut [u64; counts::PLACES],
-    n: u32,
-    w: u32,
-    start: &[u64],
-    step: &[u64],
-    bad: &[u64],
-    table: &[bool],
-    t: usize,
-) {
-    let mut store = filled();
-    let room = room_for(t) % 34;
-    let r = row_of(n, table, t);
-    list(
-        counts,
-        n,
-        w,
-        start,
-        step,
-        bad,
-        t as u64,
-        &mut store[..room],
-        r,
-    );
+// One state. There is room for all states; for every fourth state room for two.
+fn list(counts: &mut Counts<PLACES>, case: Case, t: usize) {
+    let mut row = [0; ROOM];
+    let mut store = [FILLED; ROOM];
+    let length = if t % 4 == 3 { 2 } else { ROOM };
+    let store = &mut store[..length];
+    let said = into::list(checks::system_of(case.s), t as u64, store);
+    enter(counts, said, store, row_of(case.table, t, &mut row));
 }
 
 // Every state.
-pub fn calls(
-    counts: &mut [u64; counts::PLACES],
-    n: u32,
-    w: u32,
-    start: &[u64],
-    step: &[u64],
-    bad: &[u64],
-    table: &[bool],
-) {
-    let end = tables::size(n);
-    let mut t = 0;
-    while t < end {
-        lend(counts, n, w, start, step, bad, table, t);
-        t += 1;
+pub fn calls(counts: &mut Counts<PLACES>, case: Case) {
+    for t in 0..tables::size(case.s.n) {
+        list(counts, case, t);
     }
 }

@@ -1,237 +1,168 @@
 // Questions about a system with random stored states, and pairs, held against the table. Each is asked four times, in another order each time: no answer
 // depends on it.
-use super::counts;
+use super::places;
+use super::places::PLACES;
+use super::systems::Case;
+use counts::Counts;
+use question::Free;
+use tables::Table;
 
 // How many questions, and how many pairs, of step and as many of bad.
 const TURNS: u64 = 4;
 
-const ALL: u64 = 0xFFFF_FFFF_FFFF_FFFF;
-
-// What the walk and the engine say if there is no state.
-const NONE: u64 = ALL;
-
-// A question: whether it asks for a step, the level, the state to step to, and where it begins.
-#[derive(Clone, Copy)]
-pub struct Query {
-    pub steps: bool,
-    pub i: u32,
-    pub target: u64,
-    pub from: u64,
-}
-
-// The least state not below `from` that the table says so of and that is in R(i).
-fn walk(n: u32, table: &[bool], states: &[u64], levels: &[u32], q: Query) -> u64 {
-    let end = tables::size(n) as u64;
-    let mut s = q.from;
-    while s < end {
-        let so = if q.steps {
-            tables::is_step(n, table, s as usize, q.target as usize)
-        } else {
-            tables::is_bad(n, table, s as usize)
-        };
-        let inside = if q.i == 0 {
-            tables::is_start(n, table, s as usize)
-        } else {
-            !small_systems::is_stored(states, levels, q.i, s)
-        };
-        if so & inside {
-            return s;
-        }
-        s += 1;
-    }
-    NONE
-}
-
-// What the engine says.
-fn ask(
-    free: question::Free,
-    order: &[u64; order::TABLE],
-    start: &[u64],
-    list: &[u64],
-    states: &[u64],
-    levels: &[u32],
-    q: Query,
-) -> u64 {
-    let answer = if q.steps {
-        question::step_in(
-            free, order, start, list, states, levels, q.i, q.target, q.from,
-        )
-    } else {
-        question::bad_in(free, order, start, list, states, levels, q.i, q.from)
-    };
-    match answer {
-        question::Answer::State(s) => s,
-        question::Answer::Nothing => NONE,
-    }
-}
+// How many states may be stored.
+const STORED: usize = 16;
 
 // In which order: nothing is woken and no wire tried first, all is, what matters to the list, or any.
-fn order_of(turn: u64, list: &[u64], w: u32, random: u64) -> [u64; order::TABLE] {
-    match turn {
-        0 => [0; order::TABLE],
-        1 => [ALL; order::TABLE],
-        2 => order::table(list, w),
-        _ => [random; order::TABLE],
+#[derive(Clone, Copy, Debug, PartialEq, Eq)]
+enum Order {
+    None,
+    All,
+    List,
+    Any,
+}
+
+const ORDERS: [Order; 4] = [Order::None, Order::All, Order::List, Order::Any];
+
+impl Order {
+    fn table(self, list: &[u64], w: u32, random: u64) -> [u64; order::TABLE] {
+        match self {
+            Order::None => [0; order::TABLE],
+            Order::All => [u64::MAX; order::TABLE],
+            Order::List => order::table(list, w),
+            Order::Any => [random; order::TABLE],
+        }
     }
 }
 
-// A question asked in some order.
-fn compare(
-    counts: &mut [u64; counts::PLACES],
-    free: question::Free,
-    order: &[u64; order::TABLE],
-    start: &[u64],
-    list: &[u64],
-    states: &[u64],
-    levels: &[u32],
-    q: Query,
-    wanted: u64,
-) {
-    let said = ask(free, order, start, list, states, levels, q);
-    counts::count(counts, counts::FOUND, said != NONE);
-    counts::count(counts, counts::QUESTIONS_WRONG, said != wanted);
-    counts::stir(counts, counts::QUESTIONS, said);
+// A question: the list that it is about; the state to step to, or none where a bad state is asked for; the level; where it begins; and the stored states
+// with their levels.
+#[derive(Clone, Copy, Debug)]
+struct Query<'a> {
+    list: &'a [u64],
+    target: Option<u64>,
+    i: u32,
+    from: u64,
+    states: &'a [u64],
+    levels: &'a [u32],
 }
 
-// A pair asked in some order. Numbers above the 32 low bits of both say nothing.
-fn pair(
-    counts: &mut [u64; counts::PLACES],
-    free: question::Free,
-    order: &[u64; order::TABLE],
-    list: &[u64],
-    s: u64,
-    t: u64,
-    wanted: bool,
-    high: u64,
-) {
-    let said = question::some_true(free, order, list, s | high << 32, t | high << 40);
-    counts::count(counts, counts::TRUE, said);
-    counts::count(counts, counts::QUESTIONS_WRONG, said != wanted);
-    counts::stir(counts, counts::QUESTIONS, if said { 1 } else { 0 });
-}
-
-// A question and a pair, each asked four times.
-fn turns(
-    counts: &mut [u64; counts::PLACES],
-    n: u32,
-    w: u32,
-    start: &[u64],
-    list: &[u64],
-    table: &[bool],
-    states: &[u64],
-    levels: &[u32],
-    q: Query,
-    random: u64,
-) {
-    let wanted = walk(n, table, states, levels, q);
-    let s = tables::low(n, random >> 32);
-    let later = if q.steps { q.target } else { 0 };
-    let so = if q.steps {
-        tables::is_step(n, table, s as usize, later as usize)
-    } else {
-        tables::is_bad(n, table, s as usize)
-    };
-    let mut turn = 0;
-    while turn < 4 {
-        // the last time with more wires declared than there can be
-        let free = question::Free {
-            n,
-            w: if turn < 3 { w } else { w | 64 },
-        };
-        let order = order_of(turn, list, w, random);
-        compare(counts, free, &order, start, list, states, levels, q, wanted);
-        pair(counts, free, &order, list, s, later, so, random >> 40);
-        turn += 1;
+impl<'a> Query<'a> {
+    // Whether the table says of the state what is asked.
+    fn holds(self, table: Table, s: u64) -> bool {
+        match self.target {
+            Some(t) => table.is_step(s as usize, t as usize),
+            None => table.is_bad(s as usize),
+        }
     }
-}
 
-// Which question.
-fn query_of(n: u32, steps: bool, random: u64) -> Query {
-    let from = tables::low(n, random >> 24);
-    Query {
-        steps,
-        i: ((random >> 4) % 4) as u32,
-        target: tables::low(n, random >> 16),
-        from: if (random >> 8) % 2 == 0 { 0 } else { from },
+    // Whether the state is in R(i).
+    fn is_inside(self, table: Table, s: u64) -> bool {
+        if self.i == 0 {
+            table.is_start(s as usize)
+        } else {
+            !small_systems::is_stored(self.states, self.levels, self.i, s)
+        }
+    }
+
+    // The least state not below `from` that the table says so of and that is in R(i).
+    fn walk(self, table: Table) -> Option<u64> {
+        (self.from..tables::size(table.n) as u64).find(|s| self.holds(table, *s)
+            && self.is_inside(table, *s))
+    }
+
+    // What the engine says.
+    fn ask(self, free: Free, order: &[u64; order::TABLE], start: &[u64]) -> Option<u64> {
+        match self.target {
+            Some(target) => question::step_in(
+                free,
+                order,
+                start,
+                self.list,
+                self.states,
+                self.levels,
+                self.i,
+                target,
+                self.from,
+            ),
+            None => question::bad_in(
+                free,
+                order,
+                start,
+                self.list,
+                self.states,
+                self.levels,
+                self.i,
+                self.from,
+            ),
+        }
+    }
+
+    // The question and a pair, each asked four times. Numbers above the 32 low bits of both states of a pair say nothing.
+    fn turns(self, counts: &mut Counts<PLACES>, case: Case, random: u64) {
+        let s = case.s;
+        let wanted = self.walk(case.table);
+        let state = tables::low(s.n, random >> 32);
+        let so = self.holds(case.table, state);
+        let high = random >> 40;
+        let pair = (state | high << 32, self.target.unwrap_or(0) | high << 40);
+        for order in ORDERS {
+            // the last time with more wires declared than there can be
+            let free = Free {
+                n: s.n,
+                w: if order == Order::Any { s.w | 64 } else { s.w },
+            };
+            let order = order.table(self.list, s.w, random);
+            let said = self.ask(free, &order, s.start);
+            counts.count(places::FOUND, said.is_some());
+            counts.count(places::QUESTIONS_WRONG, said != wanted);
+            counts.stir(places::QUESTIONS, said.unwrap_or(u64::MAX));
+            let said = question::some_true(free, &order, self.list, pair.0, pair.1);
+            counts.count(places::TRUE, said);
+            counts.count(places::QUESTIONS_WRONG, said != so);
+            counts.stir(places::QUESTIONS, u64::from(said));
+        }
     }
 }
 
 // Stored states and their levels, 0 to 4.
-fn fill(n: u32, states: &mut [u64; 16], levels: &mut [u32; 16], seed: u64) {
+fn fill(n: u32, states: &mut [u64; STORED], levels: &mut [u32; STORED], seed: u64) {
     let mut random = seed;
-    let mut j = 0;
-    while j < 16 {
+    for (state, level) in states.iter_mut().zip(levels.iter_mut()) {
         random = small_systems::next(random);
-        states[j] = tables::low(n, random >> 8);
-        levels[j] = ((random >> 20) % 5) as u32;
-        j += 1;
+        *state = tables::low(n, random >> 8);
+        *level = ((random >> 20) % 5) as u32;
     }
 }
 
-// A question from the front parts of what was stored: at times with fewer levels than states, or more.
-fn cut(
-    counts: &mut [u64; counts::PLACES],
-    n: u32,
-    w: u32,
-    start: &[u64],
-    list: &[u64],
-    steps: bool,
-    table: &[bool],
-    states: &[u64; 16],
-    levels: [u32; 16],
-    random: u64,
-) {
+// One question about step, or about bad, from the front parts of what is stored: at times with fewer levels than states, or more.
+fn ask_one(counts: &mut Counts<PLACES>, case: Case, steps: bool, random: u64) {
+    let s = case.s;
+    let mut states = [0; STORED];
+    let mut levels = [0; STORED];
+    fill(s.n, &mut states, &mut levels, random);
     let stored = ((random >> 48) % 17) as usize;
     let known = ((random >> 52) % 17) as usize;
-    turns(
-        counts,
-        n,
-        w,
-        start,
-        list,
-        table,
-        small_systems::front(states, stored),
-        &levels[..known],
-        query_of(n, steps, random),
-        random,
-    );
-}
-
-// One question.
-fn ask_one(
-    counts: &mut [u64; counts::PLACES],
-    n: u32,
-    w: u32,
-    start: &[u64],
-    list: &[u64],
-    steps: bool,
-    table: &[bool],
-    random: u64,
-) {
-    let mut states = [0u64; 16];
-    let mut levels = [0u32; 16];
-    fill(n, &mut states, &mut levels, random);
-    cut(
-        counts, n, w, start, list, steps, table, &states, levels, random,
-    );
+    let q = Query {
+        list: if steps { s.step } else { s.bad },
+        target: steps.then_some(tables::low(s.n, random >> 16)),
+        i: ((random >> 4) % 4) as u32,
+        from: if (random >> 8) % 2 == 0 {
+            0
+        } else {
+            tables::low(s.n, random >> 24)
+        },
+        states: &states[..stored],
+        levels: &levels[..known],
+    };
+    q.turns(counts, case, random);
 }
 
 // All questions about step, or about bad.
-pub fn calls(
-    counts: &mut [u64; counts::PLACES],
-    n: u32,
-    w: u32,
-    start: &[u64],
-    list: &[u64],
-    steps: bool,
-    table: &[bool],
-    seed: u64,
-) {
+pub fn calls(counts: &mut Counts<PLACES>, case: Case, steps: bool, seed: u64) {
     let mut random = seed;
-    let mut k = 0;
-    while k < TURNS {
+    for _ in 0..TURNS {
         random = small_systems::next(random);
-        ask_one(counts, n, w, start, list, steps, table, random);
-        k += 1;
+        ask_one(counts, case, steps, random);
     }
 }

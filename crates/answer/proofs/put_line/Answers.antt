@@ -8,43 +8,42 @@ use Rattle.answer.proofs.Lines.{digits_end, sum_more, line_more, line_ended}
 use borrow.Author.Rules.{rules}
 use Rattle.answer.proofs.put_line.Goals as goal
 
-pub loop-j-init : goal.loop-j-init
+pub loop-byte-init : goal.loop-byte-init
 unfolding sum digits
-loop-j-init c = (search rules, search rules, search rules, refl, writes_none _ _)
+loop-byte-init c = (search rules, search rules, refl, writes_none _ _)
 
 pub put_digits-next-requires : goal.put_digits-next-requires
-put_digits-next-requires c = omega (arith, c.loop-j.invariant.1)
+put_digits-next-requires c = omega (arith, c.loop-byte.invariant.0)
 
 pub overflow_cast-sum : goal.overflow_cast-sum
-overflow_cast-sum c = omega (arith, c.type_inv.frame c.loop-j.j)
+overflow_cast-sum c = omega (arith, c.type_inv.frame c.loop-byte.byte-index)
 
 pub overflow_add-sum : goal.overflow_add-sum
 overflow_add-sum c =
-    let l = c.loop-j in
-    omega (arith, l.invariant.2, c.type_inv.frame l.j)
+    let l = c.loop-byte in
+    omega (arith, l.invariant.1, c.type_inv.frame l.byte-index)
 
-pub loop-j-preserved : goal.loop-j-preserved
-loop-j-preserved c =
-    let l = c.loop-j in (
-      omega arith,
+pub loop-byte-preserved : goal.loop-byte-preserved
+loop-byte-preserved c =
+    let l = c.loop-byte in (
       omega (arith, digits_end _ c.put_digits-next.ensures),
-      omega (arith, l.invariant.2, c.type_inv.frame l.j),
-      sum_more _ _ c.loop-j-test.true _ l.invariant.3,
-      line_more _ _ c.loop-j-test.true l.invariant.4 c.put_digits-next.ensures,
+      omega (arith, l.invariant.1, c.type_inv.frame l.byte-index),
+      sum_more _ _ c.loop-byte-test.true _ l.invariant.2,
+      line_more _ _ c.loop-byte-test.true l.invariant.3 c.put_digits-next.ensures,
     )
 
 pub put_digits-next-requires-2 : goal.put_digits-next-requires-2
-put_digits-next-requires-2 c = omega (arith, c.loop-j.invariant.1)
+put_digits-next-requires-2 c = omega (arith, c.loop-byte.invariant.0)
 
 pub put-requires : goal.put-requires
 put-requires c = omega (arith, digits_end _ c.put_digits-next-2.ensures)
 
 pub shape_of-out : goal.shape_of-out
 shape_of-out c =
-    let inv = c.loop-j.invariant in
-    writes_length c.put.ensures ∙ (writes_length c.put_digits-next-2.ensures ∙ writes_length inv.4)
+    let inv = c.loop-byte.invariant in
+    writes_length c.put.ensures ∙ (writes_length c.put_digits-next-2.ensures ∙ writes_length inv.3)
 
 pub returns : goal.returns
 returns c =
-    let inv = c.loop-j.invariant in
-    line_ended _ (take_all _ _ c.loop-j-test.false) inv.3 inv.4 c.put_digits-next-2.ensures c.put.ensures
+    let inv = c.loop-byte.invariant in
+    line_ended _ (take_all _ _ (omega arith)) inv.2 inv.3 c.put_digits-next-2.ensures c.put.ensures

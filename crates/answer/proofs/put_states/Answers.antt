@@ -7,22 +7,21 @@ use Rattle.answer.proofs.Frames.{writes_state, states_more}
 use borrow.Author.Rules.{rules}
 use Rattle.answer.proofs.put_states.Goals as goal
 
-pub loop-j-init : goal.loop-j-init
+pub loop-s-init : goal.loop-s-init
 unfolding state_lines
-loop-j-init c = (search rules, search rules, writes_none _ _)
+loop-s-init c = (search rules, writes_none _ _)
 
-pub loop-j-preserved : goal.loop-j-preserved
-loop-j-preserved c =
-    let l = c.loop-j in (
-      omega arith,
-      omega (arith, l.invariant.1, line_end _ c.put_line-next.ensures),
-      states_more _ _ _ c.loop-j-test.true l.invariant.2
-          (writes_state _ _ c.byte_of.ensures c.byte_of-in-loop-j.ensures c.byte_of-in-loop-j-2.ensures
-          c.byte_of-in-loop-j-3.ensures c.put_line-next.ensures),
+pub loop-s-preserved : goal.loop-s-preserved
+loop-s-preserved c =
+    let l = c.loop-s in (
+      omega (arith, l.invariant.0, line_end _ c.put_line-next.ensures),
+      states_more _ _ _ c.loop-s-test.true l.invariant.1
+          (writes_state _ _ c.byte_of.ensures c.byte_of-in-loop-s.ensures c.byte_of-in-loop-s-2.ensures
+          c.byte_of-in-loop-s-3.ensures c.put_line-next.ensures),
     )
 
 pub shape_of-out : goal.shape_of-out
-shape_of-out c = writes_length c.loop-j.invariant.2
+shape_of-out c = writes_length c.loop-s.invariant.1
 
 pub returns : goal.returns
-returns c = rw (take_all _ _ c.loop-j-test.false) at c.loop-j.invariant.2
+returns c = rw (take_all c.loop-s.s-index c.args.states.now (omega arith)) at c.loop-s.invariant.1

@@ -1,14 +1,10 @@
--- `answer::put_states` meets its contract. The loop's invariant: the lines of the first j states were written, 13 bytes each. The measure is what is
--- left of the states. Assumes nothing.
-use Prim.Native.Nat.{◌+◌, ◌-◌, ◌*◌, ◌≤◌}
+-- `answer::put_states` meets its contract. The loop's invariant: the lines of the states that were passed were written, 13 bytes each. Assumes nothing.
+use Prim.Native.Nat.{◌+◌, ◌*◌}
 use mathlib.Core.Path.{◌≡◌}
-use lib.ListN.{length, take}
+use lib.ListN.{take}
 use Rattle.text.specs.Writing.{Writes}
 use Rattle.answer.specs.Answer.{state_lines}
 use Rattle.answer.proofs.put_states.Given as goal
 
-abbrev pub invariant-loop-j : goal.invariant-loop-j
-invariant-loop-j l = (l.j ≤ length l.states) × (l.next ≡ l.at + 13 * l.j) × Writes l.at (state_lines l.kind (take l.j l.states)) l.initial.out l.next l.out
-
-abbrev pub decreases-loop-j : goal.decreases-loop-j
-decreases-loop-j l = length l.states - l.j
+abbrev pub invariant-loop-s : goal.invariant-loop-s
+invariant-loop-s l = (l.next ≡ l.at + 13 * l.s-index) × Writes l.at (state_lines l.kind (take l.s-index l.states)) l.initial.out l.next l.out

@@ -1,20 +1,19 @@
 -- `house::take_lines` meets its contract. The loop's invariant: the reader stands at an index where a line starts, and what is left of the text from
--- there says what the whole text says (`Stands`); the stores are as long as they were. A turn takes the next line from the reader, whose place moves,
--- and hands it to `take_turn`. The measure is what is left of the text. Assumes nothing.
+-- there says what the whole text says (`Stands`); the stores are as long as they were. The measure is what is left of the text. Assumes nothing.
 use Prim.Native.Nat.{◌-◌}
 use mathlib.Core.Path.{◌≡◌}
 use lib.ListN.{length}
-use Rattle.stores.specs.Lists.{lists}
-use Rattle.house.specs.Inner.{Same, Stands}
+use Rattle.house.specs.Inner.{lists_of, Keeps, Same, Stands}
 use Rattle.house.proofs.take_lines.Given as goal
 
-abbrev pub invariant-loop-s : goal.invariant-loop-s
-invariant-loop-s l =
+abbrev pub invariant-loop-r : goal.invariant-loop-r
+invariant-loop-r l =
     record {
       text : l.r.text.now ≡ l.text;
-      same : Same (lists l.fn.start l.fn.step l.fn.bad) (lists l.start l.step l.bad);
-      stands : Stands l.text l.r.at l.s (lists l.start l.step l.bad);
+      kept : Keeps l.fn.into l.into;
+      same : Same (lists_of l.fn.into) (lists_of l.into);
+      stands : Stands l.text l.r.at l.line l.reading (lists_of l.into);
     }
 
-abbrev pub decreases-loop-s : goal.decreases-loop-s
-decreases-loop-s l = length l.text - l.r.at
+abbrev pub decreases-loop-r : goal.decreases-loop-r
+decreases-loop-r l = length l.text - l.r.at

@@ -18,13 +18,13 @@ returns-in_default c =
 pub returns-then-count-store : goal.returns-then-count-store
 returns-then-count-store c =
     overfull _ _ _ _ _ _ c.loop-s.invariant _ _
-    (is_between _ _ _ _ (sym (ap answered c.in-State.is) ∙ c.next-answer.ensures)) (omega arith) c.clear.ensures
+    (is_between _ _ _ _ (sym (ap answered c.in-Some.is) ∙ c.next-answer.ensures)) (omega arith) c.clear.ensures
 
 -- ---- it is written
 pub loop-s-preserved : goal.loop-s-preserved
 loop-s-preserved c =
     filling_more _ _ _ _ _ _ c.loop-s.invariant _
-    (is_between _ _ _ _ (sym (ap answered c.in-State.is) ∙ c.next-answer.ensures)) (omega arith)
+    (is_between _ _ _ _ (sym (ap answered c.in-Some.is) ∙ c.next-answer.ensures)) (omega arith)
 
 pub overflow_add-from : goal.overflow_add-from
 overflow_add-from c = omega (arith, filling_small c.requires (loop-s-preserved c))

@@ -20,7 +20,7 @@ returns-in-Failed c =
     let settled = c.or.ensures ∙ ap (bit_or (word_of a.s.bits)) above in
     rw c.low_part-in-Failed.ensures
     (low_fails width 32 half_width _ (setting a.s) _
-    (rw (c.in-Failed.is, settled, c.low_part.ensures) at c.scan_all-look.ensures))
+    (rw (c.in-Failed.is, settled, c.low_part.ensures) at c.scan_all.ensures))
 
 pub returns-in-Forced : goal.returns-in-Forced
 returns-in-Forced c =
@@ -28,4 +28,4 @@ returns-in-Forced c =
     let settled = c.or.ensures ∙ ap (bit_or (word_of a.s.bits)) above in
     rw c.low_part-in-Forced.ensures
     (low_forces width 32 half_width _ (setting a.s) _ _ _
-    (rw (c.in-Forced.is, settled, c.low_part.ensures) at c.scan_all-look.ensures))
+    (rw (c.in-Forced.is, settled, c.low_part.ensures) at c.scan_all.ensures))

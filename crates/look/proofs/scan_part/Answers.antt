@@ -1,8 +1,10 @@
 use native.Mathlib.Omega.{arith}
-use Rattle.look.proofs.Lists.{list_scanned}
+use Rattle.look.proofs.Lists.{walks_on, list_scanned}
 use Rattle.look.proofs.scan_part.Goals as goal
 
-pub returns-in_default : goal.returns-in_default
-returns-in_default c =
-    list_scanned c.args.list.now c.loop-j.j (omega (arith, c.requires)) c.args.s
-    c.clause-look.result c.clause-look.ensures
+pub loop-left-preserved : goal.loop-left-preserved
+loop-left-preserved c = walks_on _ _ c.loop-left.invariant _
+
+pub returns-in_default-look : goal.returns-in_default-look
+returns-in_default-look c =
+    list_scanned _ _ c.loop-left.invariant (omega arith) c.args.s c.clause-look.result c.clause-look.ensures

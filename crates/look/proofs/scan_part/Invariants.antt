@@ -1,10 +1,11 @@
--- `look::scan_part` meets its contract. What a clause says, the list says; clauses that say nothing say nothing together, so the loop keeps nothing. The
--- measure is how many clauses are left. Assumes nothing.
-use Prim.Native.Nat.{◌-◌}
+-- `look::scan_part` meets its contract. What a clause says, the list says; clauses that say nothing say nothing together, so the loop keeps only that the
+-- list is false where what is left is. The measure is the length of what is left. Assumes nothing.
+use lib.ListN.{length}
+use Rattle.look.proofs.Lists.{Walks}
 use Rattle.look.proofs.scan_part.Given as goal
 
-abbrev pub invariant-loop-j : goal.invariant-loop-j
-invariant-loop-j l = Unit {0}
+abbrev pub invariant-loop-left : goal.invariant-loop-left
+invariant-loop-left l = Walks l.list l.left
 
-abbrev pub decreases-loop-j : goal.decreases-loop-j
-decreases-loop-j l = l.end - l.j
+abbrev pub decreases-loop-left : goal.decreases-loop-left
+decreases-loop-left l = length l.left

@@ -1,8 +1,5 @@
 -- `order::mark` is safe and ends. The measure is what is left of the mask. Assumes nothing.
 use Rattle.order.proofs.mark.Given as goal
 
-abbrev pub invariant-loop-left : goal.invariant-loop-left
-invariant-loop-left l = Unit {0}
-
 abbrev pub decreases-loop-left : goal.decreases-loop-left
 decreases-loop-left l = l.left

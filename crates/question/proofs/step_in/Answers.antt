@@ -3,12 +3,13 @@ use mathlib.Core.Path.{◌≡◌, sym, ◌∙◌}
 use native.Mathlib.Nat.{pos_of_ne-zero}
 use Rattle.question.proofs.Conditions.{step_start, step_stored}
 use Rattle.question.proofs.step_in.Goals as goal
-
-pub returns-then-i-eq0 : goal.returns-then-i-eq0
-returns-then-i-eq0 c =
-    let z : c.args.i ≡ 0 = c.if-i-eq0.true in
-    rw z ((rw z at c.ask.ensures) ∙ sym (step_start _ _ _ _ _ _ _ _))
+use Rattle.question.proofs.step_in.Goals.{then-i-eq0, else-i-eq0}
 
 pub returns : goal.returns
 returns c =
-    c.ask-2.ensures ∙ sym (step_stored _ _ _ _ _ _ _ _ _ (pos_of_ne-zero c.if-i-eq0.false))
+    elim c.if-i-eq0.branch [
+      | then-i-eq0 w ↦
+          let z : c.args.i ≡ 0 = w.if-i-eq0.true in
+          rw z ((rw (w.within-is, z) at c.ask.ensures) ∙ sym (step_start _ _ _ _ _ _ _ _))
+      | else-i-eq0 w ↦ (rw w.within-is at c.ask.ensures) ∙ sym (step_stored _ _ _ _ _ _ _ _ _ (pos_of_ne-zero w.if-i-eq0.false))
+    ]

@@ -1,11 +1,6 @@
--- `stores::clear` meets its contract: its loop keeps `Cleared` of `Clearing.antt`. The measure is what is left of the length. Assumes nothing.
-use Prim.Native.Nat.{◌-◌}
-use lib.ListN.{length}
-use Rattle.stores.proofs.Clearing.{Cleared}
+-- `stores::clear` meets its contract: as many zeros stand in front as numbers were passed. Assumes nothing.
+use Rattle.std.proofs.Common.{◌≡◌, ◌++◌, replicate, drop}
 use Rattle.stores.proofs.clear.Given as goal
 
-abbrev pub invariant-loop-j : goal.invariant-loop-j
-invariant-loop-j l = Cleared l.initial.store l.store l.j
-
-abbrev pub decreases-loop-j : goal.decreases-loop-j
-decreases-loop-j l = length l.initial.store - l.j
+abbrev pub invariant-loop-x : goal.invariant-loop-x
+invariant-loop-x g l = l.store ≡ replicate l.x-index g.T.Zero.ZERO ++ drop l.x-index l.initial.store

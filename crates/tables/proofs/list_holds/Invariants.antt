@@ -1,9 +1,6 @@
--- `tables::list_holds` is safe and ends. The measure is what is left of the length. Assumes nothing.
-use Rattle.std.proofs.Common.{◌-◌, length}
+-- `tables::list_holds` is safe and ends. The measure is what is left of the list. Assumes nothing.
+use Rattle.std.proofs.Common.{length}
 use Rattle.tables.proofs.list_holds.Given as goal
 
-abbrev pub invariant-loop-j : goal.invariant-loop-j
-invariant-loop-j l = Unit {0}
-
-abbrev pub decreases-loop-j : goal.decreases-loop-j
-decreases-loop-j l = length l.list - l.j
+abbrev pub decreases-loop-clauses : goal.decreases-loop-clauses
+decreases-loop-clauses l = length l.clauses

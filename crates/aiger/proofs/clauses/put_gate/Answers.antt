@@ -8,11 +8,11 @@ use Rattle.aiger.proofs.clauses.put_gate.Goals as goal
 
 pub put_clause-at-requires-2 : goal.put_clause-at-requires-2
 put_clause-at-requires-2 c =
-    omega (arith, c.requires.1, clause_end _ c.put_clause-at.ensures)
+    omega (arith, c.requires, clause_end _ c.put_clause-at.ensures)
 
 pub put_clause-requires : goal.put_clause-requires
 put_clause-requires c =
-    omega (arith, c.requires.1, clause_end _ c.put_clause-at.ensures, clause_end _ c.put_clause-at-2.ensures)
+    omega (arith, c.requires, clause_end _ c.put_clause-at.ensures, clause_end _ c.put_clause-at-2.ensures)
 
 pub returns : goal.returns
 returns c =

@@ -1,15 +1,16 @@
 use mathlib.Core.Path.{sym, ◌∙◌}
-use native.Mathlib.Omega.{arith}
-use Rattle.aiger.proofs.Finding.{twice_found, twice_passed, twice_end}
+use Rattle.aiger.proofs.Finding.{twice_next, twice_end}
 use Rattle.aiger.proofs.find.defined_twice.Goals as goal
 
-pub returns-then-find-rest : goal.returns-then-find-rest
-returns-then-find-rest c =
-    sym (c.loop-i.invariant.1 ∙ twice_found _ _ c.loop-i-test.true (rw c.find.ensures at c.if-find-rest.true))
+pub returns-then-is_some : goal.returns-then-is_some
+returns-then-is_some c =
+    let found = rw (c.is_some.ensures, c.find.ensures) at c.if-is_some.true in
+    sym (c.loop-left.invariant ∙ (twice_next _ c.in-len1-up.len_at_least ∙ rw found))
 
-pub loop-i-preserved : goal.loop-i-preserved
-loop-i-preserved c =
-    (omega arith, c.loop-i.invariant.1 ∙ twice_passed _ _ c.loop-i-test.true (rw c.find.ensures at c.if-find-rest.false))
+pub loop-left-preserved : goal.loop-left-preserved
+loop-left-preserved c =
+    let none = rw (c.is_some.ensures, c.find.ensures) at c.if-is_some.false in
+    c.loop-left.invariant ∙ (twice_next _ c.in-len1-up.len_at_least ∙ rw none)
 
 pub returns : goal.returns
-returns c = sym (c.loop-i.invariant.1 ∙ twice_end _ _ c.loop-i-test.false)
+returns c = sym (c.loop-left.invariant ∙ twice_end _ c.in_default.len_below)

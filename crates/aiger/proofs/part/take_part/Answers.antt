@@ -1,15 +1,22 @@
--- `part::take_part` meets its contract: at the beginning nothing was read, and a turn takes the next line from the reader. Assumes nothing.
-use mathlib.Core.Path.{◌≡◌, refl, ap, ◌∙◌}
-use Rattle.text.specs.declared.Reader.{Reader}
-use Rattle.aiger.proofs.Parting.{onward_none, onward_then}
+-- `part::take_part` meets its contract: at the beginning nothing was read, and a turn takes the next line, which has a row or none. Assumes nothing.
+use native.Mathlib.Omega.{arith}
+use Rattle.aiger.proofs.Parting.{taken_none, taken_next, taken_wrong, taken_all}
 use Rattle.aiger.proofs.part.take_part.Goals as goal
 
-pub loop-s-init : goal.loop-s-init
-loop-s-init c = record { text = refl; stands = c.requires; onward = onward_none _ _ _ }
+pub loop-k-init : goal.loop-k-init
+loop-k-init c = taken_none _ _ _ _ c.requires.within
 
-pub loop-s-preserved : goal.loop-s-preserved
-loop-s-preserved c =
-    let was = c.loop-s.invariant in
-    let same : c.next_line-r.result.text.now ≡ c.args.text.now = ap (λ (r : Reader). r.text.now) c.next_line-r.ensures ∙ was.text in
-    let turned = rw same at c.take_turn-s.ensures in
-    record { text = same; stands = turned.stands; onward = onward_then was.onward turned.onward }
+pub returns-then-not-takes : goal.returns-then-not-takes
+returns-then-not-takes c =
+    let line = c.read_line-line.ensures in
+    taken_wrong _ _ _ _ c.loop-k.invariant c.loop-k-test.true line (c.takes.ensures.wrong c.if-not-takes.true _ _ line.row line.numbered)
+    c.wrong_form.ensures
+
+pub loop-k-preserved : goal.loop-k-preserved
+loop-k-preserved c =
+    let line = c.read_line-line.ensures in
+    taken_next _ _ _ _ c.loop-k.invariant c.loop-k-test.true line (c.takes.ensures.right c.if-not-takes.false _ _ line.row line.numbered)
+    c.put_row.ensures
+
+pub returns : goal.returns
+returns c = taken_all _ _ _ _ c.loop-k.invariant (omega (arith, c.loop-k-test.false, c.loop-k.auto.k-end))

@@ -1,15 +1,17 @@
 -- `house::enter::enter_clause` meets its contract: the list of the clause's kind has four masks more, if there is room. Assumes nothing.
+use mathlib.Core.Path.{refl}
+use native.Mathlib.Omega.{arith}
 use Rattle.house.proofs.Entering.{start_put, step_put, bad_put}
 use Rattle.house.proofs.enter.enter_clause.Goals as goal
 
-pub returns-then-kind-eq1 : goal.returns-then-kind-eq1
-returns-then-kind-eq1 c =
-    rw c.one_more.ensures (start_put c.requires c.if-kind-eq1.true c.put-room.ensures)
+pub returns-in-Start-clause-lists : goal.returns-in-Start-clause-lists
+returns-in-Start-clause-lists c =
+    rw (c.in-Start.is, c.one_more.ensures) (start_put c.requires refl c.put-room.ensures)
 
-pub returns-then-kind-eq2 : goal.returns-then-kind-eq2
-returns-then-kind-eq2 c =
-    rw c.one_more-then-kind-eq2.ensures (step_put c.requires c.if-kind-eq2.true c.put-room-then-kind-eq2.ensures)
+pub returns-in-Step-clause-lists : goal.returns-in-Step-clause-lists
+returns-in-Step-clause-lists c =
+    rw (c.in-Step.is, c.one_more-in-Step.ensures) (step_put c.requires refl c.put-room-in-Step.ensures)
 
-pub returns : goal.returns
-returns c =
-    rw c.one_more-2.ensures (bad_put c.requires c.if-kind-eq1.false c.if-kind-eq2.false c.put-room-2.ensures)
+pub returns-in-Bad-clause-lists : goal.returns-in-Bad-clause-lists
+returns-in-Bad-clause-lists c =
+    rw (c.in-Bad.is, c.one_more-in-Bad.ensures) (bad_put c.requires (λ e. omega arith) (λ e. omega arith) c.put-room-in-Bad.ensures)

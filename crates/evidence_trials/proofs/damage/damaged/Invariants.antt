@@ -1,9 +1,0 @@
--- `evidence_trials::damage::damaged` is safe and ends. The measure is how many entries are left. Assumes nothing.
-use Rattle.std.proofs.Common.{◌-◌}
-use Rattle.evidence_trials.proofs.damage.damaged.Given as goal
-
-abbrev pub invariant-loop-j : goal.invariant-loop-j
-invariant-loop-j l = Unit {0}
-
-abbrev pub decreases-loop-j : goal.decreases-loop-j
-decreases-loop-j l = 20 - l.j

@@ -1,7 +1,0 @@
--- `house::clear_stores` meets its contract: zeros are what lies over an empty list. Assumes nothing.
-use Rattle.house.proofs.Reading.{stores_cleared}
-use Rattle.house.proofs.clear_stores.Goals as goal
-
-pub returns : goal.returns
-returns c =
-    stores_cleared _ _ _ _ _ _ c.clear.ensures c.clear-2.ensures c.clear-3.ensures

@@ -1,9 +1,0 @@
--- `into_trials::main` is safe and ends. The measure is how many systems are left. Assumes nothing.
-use Rattle.std.proofs.Common.{◌-◌}
-use Rattle.into_trials.proofs.main.Given as goal
-
-abbrev pub invariant-loop-i : goal.invariant-loop-i
-invariant-loop-i l = Unit {0}
-
-abbrev pub decreases-loop-i : goal.decreases-loop-i
-decreases-loop-i l = 2048 - l.i

@@ -1,8 +1,0 @@
--- `question_trials::main` is safe and ends. The measure is how many questions are left. Assumes nothing.
-use Rattle.question_trials.proofs.main.Given as goal
-
-abbrev pub invariant-loop-left : goal.invariant-loop-left
-invariant-loop-left l = Unit {0}
-
-abbrev pub decreases-loop-left : goal.decreases-loop-left
-decreases-loop-left l = l.left

@@ -1,9 +1,0 @@
--- `search_trials::survey` is safe and ends. The measure is how many states are left. Assumes nothing.
-use Rattle.std.proofs.Common.{◌-◌}
-use Rattle.search_trials.proofs.survey.Given as goal
-
-abbrev pub invariant-loop-s : goal.invariant-loop-s
-invariant-loop-s l = Unit {0}
-
-abbrev pub decreases-loop-s : goal.decreases-loop-s
-decreases-loop-s l = l.end - l.s

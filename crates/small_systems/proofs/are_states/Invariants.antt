@@ -1,9 +1,0 @@
--- `small_systems::are_states` is safe and ends. The measure is what is left of the list. Assumes nothing.
-use Rattle.std.proofs.Common.{◌-◌, length}
-use Rattle.small_systems.proofs.are_states.Given as goal
-
-abbrev pub invariant-loop-j : goal.invariant-loop-j
-invariant-loop-j l = Unit {0}
-
-abbrev pub decreases-loop-j : goal.decreases-loop-j
-decreases-loop-j l = length l.list - l.j

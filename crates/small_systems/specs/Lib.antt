@@ -1,0 +1,3 @@
+-- The root of the definitions.
+pub mod Kind
+pub mod Random

@@ -1,9 +1,0 @@
--- `wires_trials::checks::copy` is safe and ends. The measure is how many places are left. Assumes nothing.
-use Rattle.std.proofs.Common.{◌-◌}
-use Rattle.wires_trials.proofs.checks.copy.Given as goal
-
-abbrev pub invariant-loop-j : goal.invariant-loop-j
-invariant-loop-j l = Unit {0}
-
-abbrev pub decreases-loop-j : goal.decreases-loop-j
-decreases-loop-j l = 36 - l.j
