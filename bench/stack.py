@@ -4,26 +4,16 @@ deepest question, those of that question, how many calls of `settle` stood below
 Used is what was written. Before the first question the stack below it is filled with a byte. What was not mapped then is zero until it is written, so that
 zeros at the very end are not seen; an emulator has all of it mapped.
 """
+import sys
+
 import gdb
+
+sys.path.insert(0, "bench")
+from engine import named, number
 
 FILL = 0xA5
 BELOW = 1 << 18
 PAGE = 1 << 12
-
-
-def number(expression):
-    return int(gdb.parse_and_eval("(long) (%s)" % expression))
-
-
-def named(function):
-    """The whole name of a function of questions: a method of what is asked, or in an older commit a function of the crate or of its engine."""
-    for place in "question::engine::Asked::", "question::engine::", "question::":
-        try:
-            number("&'%s%s'" % (place, function))
-            return place + function
-        except gdb.error:
-            pass
-    raise gdb.GdbError("no function " + function)
 
 
 class Calls(gdb.Breakpoint):

@@ -4,27 +4,17 @@ prints how many clauses they looked at, and the most values that one of them tri
 A call of `attempt` tries a 0. It is given the place of its answer, which says in its first byte of which kind it is, and a 1 is tried where that is the
 third: the bit is forced, since 0 is refuted.
 """
+import sys
+
 import gdb
+
+sys.path.insert(0, "bench")
+from engine import named, number
 
 KINDS = 3
 FORCED = 2
 PLACE = {"aarch64": "$x0", "i386:x86-64": "$rdi"}
 asked, tried, most, answers = 0, 0, 0, []
-
-
-def number(expression):
-    return int(gdb.parse_and_eval("(long) (%s)" % expression))
-
-
-def named(function):
-    """The whole name of a function of questions: a method of what is asked, or in an older commit a function of the crate or of its engine."""
-    for place in "question::engine::Asked::", "question::engine::", "question::":
-        try:
-            number("&'%s%s'" % (place, function))
-            return place + function
-        except gdb.error:
-            pass
-    raise gdb.GdbError("no function " + function)
 
 
 def value_tried():
