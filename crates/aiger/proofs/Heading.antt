@@ -1,5 +1,5 @@
 -- The refusals that come before the rows are judged: 21, a wrong start value, and what is read off the header. The rows are counted, so the circuit's
--- counts are the header's, and the latches before the first wrong start value are fewer than all exactly if there is one. Assumes nothing.
+-- counts are the header's. Assumes nothing.
 use Prim.Native.Nat.{ℕ, zero, suc, ◌+◌, ◌≤◌}
 use mathlib.Core.Bool.{Bool, true, false, ◌||◌}
 use mathlib.Core.List.{List}

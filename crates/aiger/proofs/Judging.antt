@@ -5,6 +5,7 @@ use mathlib.Core.Bool.{Bool, true, false, not, ◌&&◌, ◌||◌}
 use mathlib.Core.List.{List, ◌++◌, map, append_assoc}
 use mathlib.Core.Path.{◌≡◌, refl, sym, ap, ap₂, ◌∙◌}
 use native.Mathlib.Omega.{arith}
+use borrow.Author.Tests.{ltb-false}
 use lib.Dec.{eqb, ltb}
 use lib.ListN.{length, take, drop, length-append, length-drop, take-append-drop}
 use lib.Seq.{length-take-le, take_at, drop_at, drop-drop}
@@ -225,7 +226,7 @@ module _ {text : List ℕ} {r : Reading} {rows : List Row} (h : Held text r rows
       pub number_last : loop_free (gates_of h.gates) ≡ true → number ≡ last_refusal H h.latches a b d
       number_last f = held_number a b d ∙ rw (e, f)
 
-  -- where none of the last is given: each store has room
+  -- where none of the last is given: each store has room, and there are no more constraints than clauses
   module _ (a b d : ℕ) (e : last_refusal H h.latches a b d ≡ 0) where
     last_tests : (short H (length (start_list h.latches)) a b d ≡ false) × (ltb most_clauses (2 * H.latches + shared_count H) ≡ false)
     unfolding last_refusal
@@ -236,6 +237,9 @@ module _ {text : List ℕ} {r : Reading} {rows : List Row} (h : Held text r rows
 
     pub last_room : short H (length (start_list h.latches)) a b d ≡ false
     last_room = last_tests.0
+
+    pub last_few : H.constraints ≤ 4096
+    last_few = omega (arith, ltb-false most_clauses (2 * H.latches + shared_count H) last_tests.1)
 
   -- a number that was found for the rows
   module _ (a b d number : ℕ) (found : number ≡ last_refusal H (flattened (take H.latches rows)) a b d) where

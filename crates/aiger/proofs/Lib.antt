@@ -21,3 +21,4 @@ pub mod Listing
 pub mod Keeping
 pub mod First
 pub mod Meaning
+pub mod Same

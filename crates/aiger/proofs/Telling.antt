@@ -184,28 +184,28 @@ module _ (text : List ℕ) (h : Header) (at : ℕ) (before : List Row) where
   fault_inputs t = fault_part t refl (λ k w. behind_broken _ w)
 
   module _ {i : ℕ} {b : List Row} (inputs : Takes text inputs_lines at before (Ok i) b) where
-    abbrev first_read : Read text inputs_lines at before i b
-    first_read = inputs.right i refl
+    abbrev inputs_read : Read text inputs_lines at before i b
+    inputs_read = inputs.right i refl
 
     pub fault_latches : {b' : List Row} {f : Fault} → Takes text latches_lines i b (Err f) b'
         → ReadAs text (parts_of h (lines (drop at text))) before (Err f) b'
     unfolding parts_of
-    fault_latches t = fault_part t inputs.same (λ k w. behind_whole _ first_read.says ∙ behind_broken _ w)
+    fault_latches t = fault_part t inputs.same (λ k w. behind_whole _ inputs_read.says ∙ behind_broken _ w)
 
     module _ {j : ℕ} {b' : List Row} (latches : Takes text latches_lines i b (Ok j) b') where
-      abbrev second_read : Read text latches_lines i b j b'
-      second_read = latches.right j refl
+      abbrev latches_read : Read text latches_lines i b j b'
+      latches_read = latches.right j refl
 
       pub fault_singles : {row : ℕ} {d : List Row} {f : Fault} → Takes text (singles_lines row) j b' (Err f) d
           → ReadAs text (parts_of h (lines (drop at text))) before (Err f) d
       unfolding parts_of
       fault_singles t =
           fault_part t (latches.same ∙ inputs.same)
-          (λ k w. behind_whole _ first_read.says ∙ (behind_whole _ second_read.says ∙ behind_broken _ w))
+          (λ k w. behind_whole _ inputs_read.says ∙ (behind_whole _ latches_read.says ∙ behind_broken _ w))
 
       module _ {row k : ℕ} {d : List Row} (singles : Takes text (singles_lines row) j b' (Ok k) d) where
-        abbrev third_read : Read text (singles_lines row) j b' k d
-        third_read = singles.right k refl
+        abbrev singles_read : Read text (singles_lines row) j b' k d
+        singles_read = singles.right k refl
 
         pub fault_gates : {d' : List Row} {f : Fault} → Takes text gates_lines k d (Err f) d'
             → ReadAs text (parts_of h (lines (drop at text))) before (Err f) d'
@@ -213,8 +213,8 @@ module _ (text : List ℕ) (h : Header) (at : ℕ) (before : List Row) where
         fault_gates t =
             fault_part t (singles.same ∙ (latches.same ∙ inputs.same))
             (λ m w.
-            behind_whole _ first_read.says
-            ∙ (behind_whole _ second_read.says ∙ (behind_whole _ third_read.says ∙ behind_broken _ w)))
+            behind_whole _ inputs_read.says
+            ∙ (behind_whole _ latches_read.says ∙ (behind_whole _ singles_read.says ∙ behind_broken _ w)))
 
         -- all four are whole; those of one literal were written behind the store
         pub parts_right : {m : ℕ} {d' : List Row} → Small h → length b' ≤ row → Takes text gates_lines k d (Ok m) d'
@@ -223,27 +223,27 @@ module _ (text : List ℕ) (h : Header) (at : ℕ) (before : List Row) where
         parts_right {m} small beyond gates =
             let last = gates.right m refl in
             read_kept (record {
-              inputs = first_read.rows;
-              latches = second_read.rows;
-              singles = third_read.rows;
+              inputs = inputs_read.rows;
+              latches = latches_read.rows;
+              singles = singles_read.rows;
               gates = last.rows;
-              says = behind_whole _ first_read.says
-                  ∙ (behind_whole _ second_read.says ∙ (behind_whole _ third_read.says ∙ behind_whole _ last.says));
+              says = behind_whole _ inputs_read.says
+                  ∙ (behind_whole _ latches_read.says ∙ (behind_whole _ singles_read.says ∙ behind_whole _ last.says));
               counted = record {
                 small = small;
-                many_inputs = (part_whole _ _ _ _ first_read.says).many;
-                many_latches = (part_whole _ _ _ _ second_read.says).many;
-                many_singles = (part_whole _ _ _ _ third_read.says).many;
+                many_inputs = (part_whole _ _ _ _ inputs_read.says).many;
+                many_latches = (part_whole _ _ _ _ latches_read.says).many;
+                many_singles = (part_whole _ _ _ _ singles_read.says).many;
                 many_gates = (part_whole _ _ _ _ last.says).many;
-                latches_again = (_, record { within = first_read.within; from = _; line = _; says = second_read.says });
-                singles_again = (_, record { within = second_read.within; from = _; line = _; says = third_read.says });
+                latches_again = (_, record { within = inputs_read.within; from = _; line = _; says = latches_read.says });
+                singles_again = (_, record { within = latches_read.within; from = _; line = _; says = singles_read.says });
               };
               content = last.content
                   ∙ (ap (λ (i : ℕ). laid i last.rows (flattened d)) (mul-add 3 h.latches h.inputs)
                   ∙ ap (laid (3 * h.latches + 3 * h.inputs) last.rows)
-                  (third_read.content
-                  ∙ (laid_beyond (3 * row) third_read.rows (flattened b') (omega (arith, beyond, flat_length b'))
-                  ∙ (second_read.content ∙ ap (laid 0 second_read.rows) first_read.content))));
+                  (singles_read.content
+                  ∙ (laid_beyond (3 * row) singles_read.rows (flattened b') (omega (arith, beyond, flat_length b'))
+                  ∙ (latches_read.content ∙ ap (laid 0 latches_read.rows) inputs_read.content))));
             })
             (gates.same ∙ (singles.same ∙ (latches.same ∙ inputs.same)))
 

@@ -4,3 +4,4 @@ pub mod Excluding
 pub mod Paths
 pub mod Judging
 pub mod Cases
+pub mod Same

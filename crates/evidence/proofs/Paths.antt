@@ -111,6 +111,26 @@ module _ (w : ℕ) (list l : List ℕ) (small : each (λ x. ltb x (2 ^ 32)) l �
   unfolding pair
   bad_asked h = ap (some_true w list) (omega (arith, mod-eq_of_lt (below_at (2 ^ 32) l i h small)))
 
+-- of any path: a step that is none decides, a step is passed, and the last state is tested
+module _ (step : ℕ → ℕ → Bool) (bad : ℕ → Bool) where
+  pub stops : (l : List ℕ) → 1 < length l → step (get_or l 0 0) (get_or l 1 0) ≡ false → leads_on step bad l ≡ false
+  unfolding leads_on
+  stops [] h e = absurd (omega arith)
+  stops (s ∷ []) h e = absurd (omega arith)
+  stops (s ∷ (t ∷ xs)) h e = rw (e, leads_on)
+
+  pub passes : (l : List ℕ) → 1 < length l → step (get_or l 0 0) (get_or l 1 0) ≡ true → leads_on step bad l ≡ leads_on step bad (drop 1 l)
+  unfolding leads_on
+  passes [] h e = absurd (omega arith)
+  passes (s ∷ []) h e = absurd (omega arith)
+  passes (s ∷ (t ∷ xs)) h e = rw (e, leads_on)
+
+  pub ends : (l : List ℕ) → 0 < length l → length l < 2 → leads_on step bad l ≡ bad (get_or l 0 0)
+  unfolding leads_on
+  ends [] g h = absurd (omega arith)
+  ends (s ∷ []) g h = refl
+  ends (s ∷ (t ∷ xs)) g h = absurd (omega arith)
+
 -- as a walk tests: what is left of a path leads where the whole path leads
 module _ (step : ℕ → ℕ → Bool) (bad : ℕ → Bool) (path : List ℕ) where
   pub record Left (left : List ℕ) : Type 0 where
@@ -121,40 +141,22 @@ module _ (step : ℕ → ℕ → Bool) (bad : ℕ → Bool) (path : List ℕ) wh
   module _ (l : List ℕ) (w : Left l) where
     -- a step that is none decides
     pub leads_stops : 1 < length l → step (get_or l 0 0) (get_or l 1 0) ≡ false → leads_on step bad path ≡ false
-    unfolding leads_on
-    leads_stops h e = w.leads ∙ stops l h e
-      where
-        stops : (l : List ℕ) → 1 < length l → step (get_or l 0 0) (get_or l 1 0) ≡ false → leads_on step bad l ≡ false
-        stops [] h e = absurd (omega arith)
-        stops (s ∷ []) h e = absurd (omega arith)
-        stops (s ∷ (t ∷ xs)) h e = rw (e, leads_on)
+    leads_stops h e = w.leads ∙ stops step bad l h e
 
     -- a step is passed
     pub leads_passes : 1 < length l → step (get_or l 0 0) (get_or l 1 0) ≡ true → Left (take (length l - 1) (drop 1 l))
-    unfolding leads_on
     leads_passes h e =
         rw (rest_of 1 l)
         (record {
           some = omega (arith, length-drop 1 l);
           small = small l w.small;
-          leads = w.leads ∙ passes l h e;
+          leads = w.leads ∙ passes step bad l h e;
         })
       where
         small : (l : List ℕ) → each (λ x. ltb x (2 ^ 32)) l ≡ true → each (λ x. ltb x (2 ^ 32)) (drop 1 l) ≡ true
         small [] s = s
         small (x ∷ xs) s = (each_rest (λ x. ltb x (2 ^ 32)) x xs s).1
 
-        passes : (l : List ℕ) → 1 < length l → step (get_or l 0 0) (get_or l 1 0) ≡ true → leads_on step bad l ≡ leads_on step bad (drop 1 l)
-        passes [] h e = absurd (omega arith)
-        passes (s ∷ []) h e = absurd (omega arith)
-        passes (s ∷ (t ∷ xs)) h e = rw (e, leads_on)
-
     -- the last state is tested
     pub leads_ends : length l < 2 → leads_on step bad path ≡ bad (get_or l 0 0)
-    unfolding leads_on
-    leads_ends h = w.leads ∙ ends l w.some h
-      where
-        ends : (l : List ℕ) → 0 < length l → length l < 2 → leads_on step bad l ≡ bad (get_or l 0 0)
-        ends [] g h = absurd (omega arith)
-        ends (s ∷ []) g h = refl
-        ends (s ∷ (t ∷ xs)) g h = absurd (omega arith)
+    leads_ends h = w.leads ∙ ends step bad l w.some h

@@ -2,13 +2,16 @@
 // The file `args` has the name of each house file or circuit and behind it that of its text. A circuit begins with `aag`.
 #![tactic(auto)]
 
+ghost use Rattle.std.specs.Prelude.{◌≤◌, IfOk, vec_len};
+ghost use Rattle.examples_run.specs.declared.TheConstants.{FILE};
+
 use std::alloc::{AllocError, Global};
 use std::io::Read;
 use std::rt::Files;
 use std::{env, fs, io};
 
 // The longest file.
-const FILE: u64 = 38000;
+const FILE: usize = 38000;
 
 const ANSWER: usize = 13359;
 
@@ -16,10 +19,12 @@ const ANSWER: usize = 13359;
 const NAME: usize = 64;
 
 // What the file holds, as far as there is room and it can be read; nothing if it cannot be opened.
-fn read_file(rt: &(impl Files + Eprint), alloc: Global, name: &str) -> io::Result<Vec<u8>> {
+fn read_file(rt: &(impl Files + Eprint), alloc: Global, name: &str) -> io::Result<Vec<u8>>
+    ensures { IfOk result (λ bytes. vec_len bytes ≤ FILE) }
+{
     let mut bytes = Vec::new(alloc);
     match fs::open(rt, name) {
-        Ok(file) => match file.take(FILE).read_to_end(&mut bytes) {
+        Ok(file) => match file.take(FILE as u64).read_to_end(&mut bytes) {
             Err(error) if error.kind() == io::ErrorKind::OutOfMemory => return Err(error),
             _ => {}
         },
@@ -27,6 +32,8 @@ fn read_file(rt: &(impl Files + Eprint), alloc: Global, name: &str) -> io::Resul
             let _ = eprintln!(rt; "{name}: {error}");
         }
     }
+    // A file promises no length of what is read from it, so the limit is kept here.
+    bytes.truncate(FILE);
     Ok(bytes)
 }
 

@@ -144,15 +144,11 @@ fn front(store: &mut [u64], count: u16) -> &mut [u64] {
     &mut store[..end]
 }
 
-// A whole store before.
-fn filled<const N: usize>() -> [u64; N]
-    requires { N ≤ LARGE }
-{
-    let mut store = [0; N];
+// What stands in a whole store before.
+fn fill(store: &mut [u64]) {
     for (j, x) in store.iter_mut().enumerate() {
         *x = FILL | j as u64;
     }
-    store
 }
 
 impl Edition {
@@ -173,9 +169,12 @@ impl Edition {
     fn write_import<const N: usize>(self, text: &[u8], lent: Lent)
         requires { N ≤ LARGE }
     {
-        let mut start = filled::<N>();
-        let mut step = filled::<N>();
-        let mut bad = filled::<N>();
+        let mut start = [0; N];
+        let mut step = [0; N];
+        let mut bad = [0; N];
+        fill(&mut start);
+        fill(&mut step);
+        fill(&mut bad);
         write_imported(self.import(
             text,
             front(&mut start, lent.start),

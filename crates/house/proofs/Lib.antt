@@ -5,3 +5,4 @@ pub mod Limits
 pub mod Taking
 pub mod Reading
 pub mod Cut
+pub mod Same

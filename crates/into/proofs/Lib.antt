@@ -3,3 +3,4 @@ pub mod Rising
 pub mod Lists
 pub mod Filling
 pub mod Telling
+pub mod Same

@@ -6,3 +6,4 @@ pub mod Malformed
 pub mod Numbers
 pub mod Judging
 pub mod Saying
+pub mod Same

@@ -30,6 +30,10 @@ module _ (xs : List ℕ) (j i : ℕ) (h : j ≤ length xs) where
       f (k, i, omega (arith, length-take j xs), get_or-take j xs k i b ∙ get_or_default_zero xs k i (omega arith) ∙ q, refl)
 
 -- ---- over a store
+-- where a walk from j on found nothing, none from j on is looked for
+pub untested : {xs : List ℕ} {j count s : ℕ} → First xs j count s None → Absent xs j count s
+untested f = f.before
+
 -- from index j on up to count, a walk for s stands at k
 pub record Passed (xs : List ℕ) (j count s k : ℕ) : Type 0 where
   pub from : j ≤ k

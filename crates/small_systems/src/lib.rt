@@ -342,8 +342,8 @@ fn reach(dist: &mut [Option<u32>], from: usize, to: usize, d: u32) -> bool {
 // All steps from states at distance d, taken in their direction or back. Whether some state was reached.
 fn spread(table: Table, back: bool, dist: &mut [Option<u32>], d: u32) -> bool {
     let mut some = false;
-    for s in 0..tables::size(table.n) {
-        for t in 0..tables::size(table.n) {
+    for t in 0..tables::size(table.n) {
+        for s in 0..tables::size(table.n) {
             let (from, to) = if back { (t, s) } else { (s, t) };
             some |= table.at(s, t) && reach(dist, from, to, d);
         }
@@ -379,7 +379,7 @@ pub fn are_states(n: u32, list: &[u64]) -> bool {
 
 // Whether the state is stored with a level of i or more, or with no level beside it.
 pub fn is_stored(states: &[u64], levels: &[u32], i: u32, state: u64) -> bool {
-    states.iter().enumerate().any(|(j, x)| *x == state
+    states.iter().enumerate().rev().any(|(j, x)| *x == state
         && levels.get(j).is_none_or(|level| i <= *level))
 }
 
