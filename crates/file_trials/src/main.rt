@@ -152,6 +152,14 @@ fn fill(store: &mut [u64]) {
 }
 
 impl Edition {
+    fn of(to: u16) -> Edition {
+        if to == 3 {
+            Edition::Newer
+        } else {
+            Edition::First
+        }
+    }
+
     fn import(
         self,
         text: &[u8],
@@ -218,8 +226,7 @@ fn give(text: &[u8], to: u16) {
     match to {
         0 => write_answer(text, answer::answer),
         1 => write_answer(text, circuit_answer::answer),
-        3 => Edition::Newer.take_import(text),
-        _ => Edition::First.take_import(text),
+        _ => Edition::of(to).take_import(text),
     }
 }
 
